@@ -11,8 +11,8 @@ use Rattle.rk_world.specs.Client.{Session}
 use Rattle.rk_world.specs.Cluster.{Cluster, IsQuietCluster, journals_of}
 use Rattle.rk_settle.specs.Settle.{settle}
 use Rattle.rk_settle.proofs.AtRest.{settled_rests}
-use Rattle.rk_scripts.proofs.play.Quiet.{rests_quiet}
-use Rattle.rk_laws_lanes.specs.gathered.Sessions.{receipts_in}
+use Rattle.rk_settle.proofs.Quiet.{rests_quiet}
+use Rattle.rk_laws_drives.specs.Below.{receipts_in}
 use Rattle.rk_laws_drives.specs.Ready.{StaysReady}
 use Rattle.rk_laws_drives.proofs.Histories.{all_stored, just_answers, once, one_history}
 use Rattle.rk_laws_drives.proofs.Settling.{settling_keeps}

@@ -10,8 +10,8 @@ use Rattle.rk_world.specs.World.{World, new_world}
 use Rattle.rk_lane.specs.LaneState.{LaneState, Running, world_with}
 use Rattle.rk_cluster.specs.Fresh.{IsNewLane}
 use Rattle.rk_cluster.specs.State.{AreWorlds, IsWorld}
-use Rattle.rk_laws_lanes.specs.GoodLane.{IsGoodLane}
-use Rattle.rk_laws_lanes.proofs.Events.{good_new}
+use Rattle.rk_laws_drives.specs.Below.{IsGoodLane}
+use Rattle.rk_laws_drives.proofs.Below.{good_new}
 use Rattle.rk_shared_lanes.specs.Kept.{IsSoundOrSpent, StandsFor}
 use Rattle.rk_shared_lanes.specs.Together.{AllSoundOrSpent, numbers_of}
 use Rattle.rk_drive.specs.Beginning.{IsFresh}

@@ -9,11 +9,11 @@ use Rattle.std.proofs.lemmas.List.Sums.{sum_by-cons}
 use Rattle.rk_types.specs.NumberMap.{EachIn, IsInOrder, numbers}
 use Rattle.rk_types.specs.declared.history.Receipt.{Receipt}
 use Rattle.rk_world.specs.Client.{Session}
-use Rattle.rk_runs.specs.history.Agreement.{waiting}
+use Rattle.rk_laws_drives.specs.Below.{waiting}
 use Rattle.rk_inv_wellformed.proofs.maps.Maps.{each_from_pairs}
 use Rattle.rk_inv_wellformed.proofs.maps.Numbered.{numbered_order}
-use Rattle.rk_laws_lanes.specs.gathered.Gathered.{IsEnded, IsOrderly}
-use Rattle.rk_laws_lanes.specs.gathered.Sessions.{calls_in, receipts_in}
+use Rattle.rk_laws_drives.specs.Below.{IsEnded, IsOrderly}
+use Rattle.rk_laws_drives.specs.Below.{calls_in, receipts_in}
 use Rattle.rk_shared_lanes.specs.Passes.{MakesOnly}
 use Rattle.rk_shared_lanes.specs.Together.{AllOrderly, calls_of as calls_made}
 use Rattle.rk_workload.specs.Workload.{calls_of, workload}

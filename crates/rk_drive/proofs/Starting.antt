@@ -15,9 +15,9 @@ use Rattle.rk_cluster.specs.Masters.{HasBackups}
 use Rattle.rk_cluster.specs.State.{IsOf}
 use Rattle.rk_cluster.specs.Steps.{AreLanes, state_of}
 use Rattle.rk_types.specs.declared.history.Receipt.{Receipt}
-use Rattle.rk_laws_lanes.specs.GoodLane.{IsGoodLane}
-use Rattle.rk_laws_lanes.specs.gathered.Gathered.{IsEnded}
-use Rattle.rk_laws_lanes.specs.gathered.Sessions.{calls_in, receipts_in}
+use Rattle.rk_laws_drives.specs.Below.{IsGoodLane}
+use Rattle.rk_laws_drives.specs.Below.{IsEnded}
+use Rattle.rk_laws_drives.specs.Below.{calls_in, receipts_in}
 use Rattle.rk_laws_drives.specs.Ready.{AreReady}
 use Rattle.rk_conclude.specs.Results.{by_client}
 use Rattle.rk_conclude.proofs.Ledgers.{same_sum}

@@ -9,8 +9,8 @@ use Rattle.rk_lane.specs.LaneState.{LaneState, Running, world_with}
 use Rattle.rk_cluster.specs.Masters.{HasBackups}
 use Rattle.rk_cluster.specs.State.{AreWorlds}
 use Rattle.rk_cluster.specs.Steps.{AreLanes}
-use Rattle.rk_laws_lanes.specs.GoodLane.{IsGoodLane}
-use Rattle.rk_laws_lanes.specs.gathered.OpenCalls.{HasCountedCalls}
+use Rattle.rk_laws_drives.specs.Below.{IsGoodLane}
+use Rattle.rk_laws_drives.specs.Below.{HasCountedCalls}
 use Rattle.rk_shared_lanes.specs.Kept.{IsSoundOrSpent, StandsFor}
 use Rattle.rk_shared_lanes.specs.Together.{AllCounted, AllSoundOrSpent, IsOfRoster, numbers_of}
 use Rattle.rk_drive.proofs.Entries.{head_same, tail_same}

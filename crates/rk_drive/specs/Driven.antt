@@ -8,7 +8,7 @@ use Rattle.rk_world.specs.Client.{Session}
 use Rattle.rk_world.specs.Cluster.{Cluster}
 use Rattle.rk_world.specs.Premises.{MayAct}
 use Rattle.rk_lane.specs.LaneState.{LaneState}
-use Rattle.rk_laws_lanes.specs.gathered.Sessions.{receipts_in}
+use Rattle.rk_laws_drives.specs.Below.{receipts_in}
 use Rattle.rk_laws_drives.specs.Ready.{AreReady}
 use Rattle.rk_shared_lanes.specs.Passes.{MakesOnly}
 use Rattle.rk_shared_lanes.specs.Together.{AllCounted, AllOrderly, AllSoundOrSpent, IsOfRoster, asked_of, calls_of, clients_of, numbers_of}

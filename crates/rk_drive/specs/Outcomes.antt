@@ -9,9 +9,9 @@ use Rattle.rk_outside.specs.Segments.{Segments}
 use Rattle.rk_world.specs.Cluster.{Cluster, HasOneHistory, IsQuietCluster, journals_of, lane_at}
 use Rattle.rk_cluster.specs.Fresh.{AreEmpty}
 use Rattle.rk_cluster.specs.State.{ClusterState, IsOf}
-use Rattle.rk_laws_lanes.specs.gathered.Answers.{AreOfDistinctCalls, HasJustTheAnswers}
-use Rattle.rk_laws_lanes.specs.gathered.Sessions.{receipts_in}
-use Rattle.rk_laws_lanes.specs.gathered.StoredHistory.{HistoryIsStored}
+use Rattle.rk_laws_drives.specs.Below.{AreOfDistinctCalls, HasJustTheAnswers}
+use Rattle.rk_laws_drives.specs.Below.{receipts_in}
+use Rattle.rk_laws_drives.specs.Below.{HistoryIsStored}
 use Rattle.rk_lending.specs.Lent.{AreGivenBack}
 use Rattle.rk_workload.specs.Workload.{workload}
 use Rattle.rk_conclude.specs.Concluded.{Concludes}

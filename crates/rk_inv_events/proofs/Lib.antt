@@ -11,3 +11,4 @@ pub mod answer
 pub mod write
 pub mod rebuilt
 pub mod steps
+pub mod Below

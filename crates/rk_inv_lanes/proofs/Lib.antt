@@ -5,3 +5,4 @@ pub mod late
 pub mod stands
 pub mod wires
 pub mod applied
+pub mod Below

@@ -3,3 +3,4 @@ pub mod late
 pub mod stands
 pub mod wires
 pub mod applied
+pub mod Below

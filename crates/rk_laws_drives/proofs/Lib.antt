@@ -4,3 +4,4 @@ pub mod Histories
 pub mod Settling
 pub mod Visits
 pub mod Working
+pub mod Below

@@ -9,7 +9,7 @@ use Rattle.rk_world.specs.Client.{accepted_by, accepted_of, done, receipt_of}
 use Rattle.rk_world.specs.Ledger.{with_accepted}
 use Rattle.rk_world.specs.Refusals.{is_for}
 use Rattle.rk_world.specs.declared.event.Taken.{Taken}
-use Rattle.rk_inv_events.proofs.events.Clients.{is_last_there, may_accept}
+use Rattle.rk_runs.proofs.Below.{is_last_there, may_accept}
 use Rattle.rk_inv_base.proofs.calls.Accepted.{stands_there}
 use Rattle.rk_runs.proofs.history.Taking.{accepting_taken}
 use Rattle.rk_laws_lanes.specs.Counts.{HasReceipts, HasSameClients, IsCounted, IsOneMore}

@@ -6,9 +6,9 @@ use Rattle.rk_world.specs.Replicas.{IsTold}
 use Rattle.rk_world.specs.Runs.{IsCalmEvent}
 use Rattle.rk_inv_wellformed.proofs.lanes.New.{new_has_room, new_is_well_formed}
 use Rattle.rk_inv_base.proofs.views.Empty.{empty_is_sound}
-use Rattle.rk_inv_lanes.proofs.room.Start.{kept_new}
-use Rattle.rk_inv_lanes.proofs.stands.Telling.{all_new}
-use Rattle.rk_inv_tablets.proofs.steady.Lanes.{sealed_new, tell_new}
+use Rattle.rk_runs.proofs.Below.{kept_new}
+use Rattle.rk_runs.proofs.Below.{all_new}
+use Rattle.rk_runs.proofs.Below.{sealed_new, tell_new}
 use Rattle.rk_runs.proofs.history.Lanes.{event_good}
 use Rattle.rk_runs.proofs.history.Runs.{events_keep}
 use Rattle.rk_laws_lanes.specs.GoodLane.{IsGoodLane}

@@ -6,7 +6,7 @@ use Rattle.rk_inv_base.proofs.Words.{worked_at, Worked, World, master_at, Event,
 use Rattle.std.specs.List.{count_by}
 use Rattle.rk_world.specs.Ledger.{with_end, with_served}
 use Rattle.rk_inv_wellformed.proofs.lanes.Ledgers.{ended_is, kept_by_fold, served_is}
-use Rattle.rk_inv_lanes.proofs.lanes.Events.{Covers, event_covered}
+use Rattle.rk_runs.proofs.Below.{Covers, event_covered}
 use Rattle.rk_runs.proofs.history.GoesOn.{event_goes_on}
 use Rattle.rk_laws_lanes.specs.Counts.{AddsNoClient, HasSameClients, HasSameCounts}
 

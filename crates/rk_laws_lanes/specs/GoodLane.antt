@@ -5,9 +5,9 @@ use Rattle.rk_world.specs.Formed.{IsWellFormed}
 use Rattle.rk_world.specs.Room.{HasRoom}
 use Rattle.rk_world.specs.World.{World}
 use Rattle.rk_sound.specs.Whole.{IsSound}
-use Rattle.rk_inv_lanes.specs.room.Kept.{IsKept}
-use Rattle.rk_inv_lanes.specs.stands.Backups.{AllBackupsTell}
-use Rattle.rk_inv_events.specs.steps.Steps.{IsSteady}
+use Rattle.rk_runs.specs.Below.{IsKept}
+use Rattle.rk_runs.specs.Below.{AllBackupsTell}
+use Rattle.rk_runs.specs.Below.{IsSteady}
 
 -- a lane of this number, with so many masters, is good: it is sound and well formed and has room, also for what comes next (`kept`); it is
 -- steady, each of its backups tells what it stores, and its history starts from nothing

@@ -1,3 +1,4 @@
 pub mod Counts
 pub mod GoodLane
 pub mod gathered
+pub mod Below

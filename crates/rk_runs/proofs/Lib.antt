@@ -1,2 +1,3 @@
 pub mod history
 pub mod duties
+pub mod Below

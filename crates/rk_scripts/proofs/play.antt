@@ -16,7 +16,6 @@ pub mod Stepping
 pub mod Openings
 pub mod Kinds
 pub mod Playing
-pub mod Quiet
 pub mod Alone
 pub mod Deciding
 pub mod Unfailing

@@ -18,4 +18,5 @@ pub mod Occurred
 mod Examples
 pub mod Making
 pub mod AtRest
+pub mod Quiet
 pub mod Lossless

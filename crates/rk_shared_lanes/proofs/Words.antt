@@ -19,7 +19,7 @@ pub use Rattle.rk_message.specs.declared.calls.Reply.{Reply}
 pub use Rattle.rk_message.specs.declared.message.Body.{Body}
 pub use Rattle.rk_message.specs.declared.message.Message.{Message}
 pub use Rattle.rk_outside.specs.Segments.{Segments}
-pub use Rattle.rk_runs.specs.history.Agreement.{waiting}
+pub use Rattle.rk_laws_lanes.specs.Below.{waiting}
 pub use Rattle.rk_shared_lanes.specs.Counting.{is_answer}
 pub use Rattle.rk_shared_lanes.specs.Kept.{IsKept, IsNoneBelow, IsPart, IsSoundOrSpent, StandsFor}
 pub use Rattle.rk_shared_lanes.specs.Passes.{IsPass, MakesOnly, PassState, one_if}

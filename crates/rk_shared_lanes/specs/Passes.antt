@@ -5,7 +5,7 @@ use Rattle.rk_world.specs.Calls.{fits, is_asked_here}
 use Rattle.rk_world.specs.Client.{Session}
 use Rattle.rk_world.specs.Premises.{MayAct}
 use Rattle.rk_world.specs.World.{World}
-use Rattle.rk_runs.specs.history.Agreement.{waiting}
+use Rattle.rk_laws_lanes.specs.Below.{waiting}
 use Rattle.rk_laws_lanes.specs.gathered.Gathered.{IsOrderly}
 use Rattle.rk_shared_lanes.specs.Kept.{IsPart}
 

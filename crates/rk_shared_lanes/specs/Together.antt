@@ -5,7 +5,7 @@ use Rattle.rk_outside.specs.Segments.{Segments}
 use Rattle.rk_world.specs.Client.{Session}
 use Rattle.rk_world.specs.Ledger.{asked_by}
 use Rattle.rk_lane.specs.LaneState.{LaneState}
-use Rattle.rk_runs.specs.history.Agreement.{waiting}
+use Rattle.rk_laws_lanes.specs.Below.{waiting}
 use Rattle.rk_laws_lanes.specs.Counts.{accepted_count}
 use Rattle.rk_laws_lanes.specs.gathered.Gathered.{IsOrderly}
 use Rattle.rk_laws_lanes.specs.gathered.OpenCalls.{HasCountedCalls}

@@ -2,7 +2,7 @@
 ghost use Rattle.std.specs.Prelude.{◌≡◌, ◌+◌, ◌^◌, ◌<◌, ◌≤◌, ◌++◌, ◌∷◌, [], vec_len, vec_capacity, length, reverse, All};
 ghost use Rattle.rk_types.specs.declared.hashing.TheConstants.{LANES};
 ghost use Rattle.rk_world.specs.Premises.{MayAct};
-ghost use Rattle.rk_runs.specs.history.Agreement.{waiting};
+ghost use Rattle.rk_laws_lanes.specs.Below.{waiting};
 ghost use Rattle.rk_laws_lanes.specs.Counts.{accepted_count};
 ghost use Rattle.rk_laws_lanes.specs.gathered.Gathered.{IsOrderly};
 ghost use Rattle.rk_laws_lanes.specs.gathered.OpenCalls.{HasCountedCalls};

@@ -2,7 +2,7 @@
 ghost use Rattle.std.specs.Prelude.{◌≡◌, ◌+◌, ◌↔◌, ℕ, Err, IfOk, None, OnErr, OnOk, Some, false, is_some, length, true};
 ghost use Rattle.rk_world.specs.Client.{busy, next_call, with_next_call};
 ghost use Rattle.rk_world.specs.Premises.{IsLawfulCall, MayAct};
-ghost use Rattle.rk_runs.specs.history.Agreement.{waiting};
+ghost use Rattle.rk_laws_lanes.specs.Below.{waiting};
 ghost use Rattle.rk_laws_lanes.specs.gathered.Gathered.{IsOrderly};
 ghost use Rattle.rk_shared_lanes.specs.Passes.{MakesOnly};
 

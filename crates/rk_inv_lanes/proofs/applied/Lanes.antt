@@ -4,7 +4,7 @@ use Rattle.rk_inv_base.proofs.Words.{Called, Event, FIRST_SIDE_SEGMENT, IsWellFo
 use Rattle.rk_inv_base.proofs.Words.{ask, bytes_of_logs, committed, cut, get, get_or, happened, known_length, log_bytes, log_in, master_at}
 use Rattle.rk_inv_base.proofs.Words.{new_master, new_world, world_visited}
 use Rattle.rk_inv_base.proofs.views.Fresh.{each_fresh}
-use Rattle.rk_inv_tablets.proofs.steady.Walks.{Part, accept_keeps, ask_keeps}
+use Rattle.rk_inv_events.proofs.Below.{Part, accept_keeps, ask_keeps}
 use Rattle.rk_inv_lanes.specs.applied.CaughtUp.{AllCaughtUp, IsCaughtUp}
 use Rattle.rk_inv_lanes.proofs.applied.Commits.{split_caught, step_caught, turn_caught}
 use Rattle.rk_inv_lanes.proofs.lanes.Masters.{each_kept}

@@ -24,9 +24,9 @@ use Rattle.rk_inv_wellformed.proofs.masters.Rebuilding.{few_ends, formed_gathere
 use Rattle.rk_inv_wellformed.proofs.masters.Sealing.{first_holds, items_spelled}
 use Rattle.rk_inv_wellformed.specs.Brought.{LONGEST_LEFT}
 use Rattle.rk_inv_base.proofs.views.Put.{put2_here}
-use Rattle.rk_inv_tablets.proofs.crash.MergeTells.{read_all}
-use Rattle.rk_inv_tablets.proofs.merge.Heirs.{gathers_from}
-use Rattle.rk_inv_tablets.specs.merge.Small.{own_entries}
+use Rattle.rk_inv_events.proofs.Below.{read_all}
+use Rattle.rk_inv_events.proofs.Below.{gathers_from}
+use Rattle.rk_inv_events.proofs.Below.{own_entries}
 use Rattle.rk_inv_events.proofs.events.PostsOf.{gathering_row}
 use Rattle.rk_inv_events.proofs.copies.Gathers.{gathers, last_is, sound_with_copy}
 use Rattle.rk_inv_events.proofs.events.Crashing.{gathered_formed, readable}

@@ -14,11 +14,11 @@ use Rattle.rk_inv_base.proofs.calls.Rebuilds.{IsRebuilderIn}
 use Rattle.rk_inv_base.proofs.logs.LengthTold.{each_member, members_by}
 use Rattle.rk_inv_base.proofs.logs.MarkedApart.{place_of}
 use Rattle.rk_inv_base.proofs.pulls.Joining.{kept_stands}
-use Rattle.rk_inv_tablets.proofs.crash.Among.{flat_from, flat_of, place_there}
-use Rattle.rk_inv_tablets.proofs.crash.MergeTells.{IsToldBy, all_stand_told, all_told, read_all, read_told, stands_told}
-use Rattle.rk_inv_tablets.proofs.crash.ReadTold.{AreMarksTold, counted_told, side_material, stands_there}
-use Rattle.rk_inv_tablets.proofs.crash.Unmarked.{first_among, free_place}
-use Rattle.rk_inv_tablets.specs.merge.Small.{own_entries}
+use Rattle.rk_inv_events.proofs.Below.{flat_from, flat_of, place_there}
+use Rattle.rk_inv_events.proofs.Below.{IsToldBy, all_stand_told, all_told, read_all, read_told, stands_told}
+use Rattle.rk_inv_events.proofs.Below.{AreMarksTold, counted_told, side_material, stands_there}
+use Rattle.rk_inv_events.proofs.Below.{first_among, free_place}
+use Rattle.rk_inv_events.proofs.Below.{own_entries}
 use Rattle.rk_inv_lanes.specs.room.Logged.{IsLogged}
 use Rattle.rk_inv_events.proofs.rebuilt.Newest.{copy_of_all}
 use Rattle.rk_inv_events.proofs.Words.{AreReadable, all_by, merge_in, row_rebuilt}

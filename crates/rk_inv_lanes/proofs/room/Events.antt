@@ -11,7 +11,7 @@ use Rattle.rk_inv_base.proofs.Words.{order_after, order_without, refusal, seen_i
 use Rattle.rk_inv_wellformed.proofs.masters.Changes.{each_with_newer}
 use Rattle.rk_inv_base.proofs.views.Empty.{in_order_none}
 use Rattle.rk_inv_base.proofs.views.Fresh.{each_fresh}
-use Rattle.rk_inv_tablets.proofs.steady.Walks.{Part, accept_keeps, ask_keeps}
+use Rattle.rk_inv_events.proofs.Below.{Part, accept_keeps, ask_keeps}
 use Rattle.rk_world.specs.Limits.{IsThere}
 use Rattle.rk_world.specs.Premises.{MayCome}
 use Rattle.rk_world.specs.Room.{HasRoomIn}

@@ -7,7 +7,7 @@ use Rattle.rk_world.specs.Limits.{IsFormedMessage, IsThere}
 use Rattle.rk_inv_wellformed.proofs.bytes.ByteEvents.{master_below}
 use Rattle.rk_inv_wellformed.proofs.lanes.Worlds.{formed_limits, master_of}
 use Rattle.rk_inv_base.proofs.views.Fresh.{each_fresh}
-use Rattle.rk_inv_tablets.proofs.steady.Walks.{Part, accept_keeps, ask_keeps}
+use Rattle.rk_inv_events.proofs.Below.{Part, accept_keeps, ask_keeps}
 use Rattle.rk_inv_lanes.specs.room.Fits.{AllFit, IsFitting}
 use Rattle.rk_inv_lanes.proofs.lanes.Masters.{IsKeptByEach, each_kept}
 use Rattle.rk_inv_lanes.proofs.room.Fitting.{IsFit, few_at, put_fit, told_fit, fit_lasts}

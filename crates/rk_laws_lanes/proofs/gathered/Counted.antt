@@ -5,7 +5,7 @@ use Rattle.rk_inv_base.proofs.Words.{All-cons, All-contains, All-head, All-nil, 
 use Rattle.rk_inv_base.proofs.Words.{LastCall, IsAccepted, IsLastCall, WasAsked, IsSound}
 use Rattle.std.specs.List.{count_by}
 use Rattle.std.proofs.lemmas.List.Kept.{AllPairs-cons}
-use Rattle.rk_inv_events.proofs.events.SameCalls.{found_accepted}
+use Rattle.rk_runs.proofs.Below.{found_accepted}
 use Rattle.rk_laws_lanes.specs.Counts.{accepted_count}
 use Rattle.rk_laws_lanes.specs.gathered.OpenCalls.{HasCountedCalls, HasOpenCall, is_open}
 use Rattle.rk_laws_lanes.proofs.gathered.Pairs.{pairs_none}

@@ -6,9 +6,9 @@ use Rattle.rk_inv_base.proofs.Words.{asked_by, MayAct, accept_refusal, world_vis
 use Rattle.rk_inv_base.proofs.Words.{IsRecordAt, IsSound}
 use Rattle.rk_world.specs.declared.event.Taken.{Taken}
 use Rattle.rk_world.specs.Refusals.{is_for}
-use Rattle.rk_inv_events.proofs.events.Clients.{is_last_there}
+use Rattle.rk_runs.proofs.Below.{is_last_there}
 use Rattle.rk_runs.proofs.history.Taking.{accepting_taken, is_mine}
-use Rattle.rk_inv_lanes.proofs.lanes.Visits.{ask_covered}
+use Rattle.rk_runs.proofs.Below.{ask_covered}
 use Rattle.rk_runs.proofs.history.GoesOn.{event_goes_on}
 use Rattle.rk_laws_lanes.proofs.Ledgers.{same_counts}
 use Rattle.rk_inv_wellformed.proofs.maps.Lists.{either_way}

@@ -7,7 +7,7 @@ use Rattle.rk_inv_base.proofs.Words.{turn_of, asked_by, MayAct, World, LastCall,
 use Rattle.rk_world.specs.Client.{busy, done, receipt_of, session_calling, with_next_call, with_range, without_range}
 use Rattle.rk_world.specs.Refusals.{is_for}
 use Rattle.rk_inv_base.proofs.calls.Accepted.{stands_there}
-use Rattle.rk_inv_events.proofs.events.Clients.{is_last_there, may_accept}
+use Rattle.rk_runs.proofs.Below.{is_last_there, may_accept}
 use Rattle.rk_runs.specs.history.Agreement.{waiting}
 use Rattle.rk_runs.proofs.history.Receipts.{numbered_push, rising_push}
 use Rattle.rk_runs.proofs.history.Taking.{accepting_taken}

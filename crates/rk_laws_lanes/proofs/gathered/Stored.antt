@@ -9,8 +9,8 @@ use Rattle.rk_world.specs.Cluster.{journals_of}
 use Rattle.rk_world.specs.Quiet.{IsQuiet}
 use Rattle.rk_world.specs.Stands.{Stands, StandsIn}
 use Rattle.rk_world.specs.World.{live_masters}
-use Rattle.rk_inv_lanes.proofs.stands.Standing.{quiet_stands_in_room}
-use Rattle.rk_inv_lanes.proofs.stands.Telling.{own_where_all_tell}
+use Rattle.rk_runs.proofs.Below.{quiet_stands_in_room}
+use Rattle.rk_runs.proofs.Below.{own_where_all_tell}
 use Rattle.rk_laws_lanes.specs.GoodLane.{IsGoodLane}
 use Rattle.rk_laws_lanes.specs.gathered.StoredHistory.{HistoryIsStored, StoresHistory}
 use Rattle.rk_laws_lanes.proofs.gathered.Lanes.{lawful}

@@ -5,7 +5,7 @@ use Rattle.rk_inv_base.proofs.Words.{and_from, All-contains, bytes_eq-Decides, C
 use Rattle.rk_inv_base.proofs.Words.{call_lane, Cluster, lane_at, session_at, is_accepted, asked_by, World, LastCall, IsAccepted}
 use Rattle.rk_inv_base.proofs.Words.{IsLastCall}
 use Rattle.rk_world.specs.Calls.{is_next}
-use Rattle.rk_inv_events.proofs.events.SameCalls.{accepted_found, found_accepted}
+use Rattle.rk_inv_lanes.proofs.Below.{accepted_found, found_accepted}
 use Rattle.rk_runs.specs.history.Agreement.{Agrees, IsLastKnown, IsOutstanding, IsToldBy}
 use Rattle.rk_runs.proofs.history.Clusters.{IsGood, IsGoodLane, ledgers_of}
 use Rattle.rk_runs.proofs.history.Receipts.{seqs_within}

@@ -6,7 +6,7 @@ use Rattle.rk_inv_base.proofs.Words.{no_base, refusal, taking, world_visited}
 use Rattle.rk_inv_wellformed.proofs.lanes.Asks.{IsFormedVisit, formed_accept, formed_ask}
 use Rattle.rk_inv_wellformed.proofs.lanes.Whole.{formed_event}
 use Rattle.rk_inv_wellformed.proofs.room.Rooms.{room_accept, room_asking}
-use Rattle.rk_inv_events.proofs.events.Clients.{sound_accepts, sound_asks}
+use Rattle.rk_inv_lanes.proofs.Below.{sound_accepts, sound_asks}
 use Rattle.rk_inv_lanes.proofs.lanes.Visits.{asking_covered}
 use Rattle.rk_world.specs.Premises.{MayCome}
 use Rattle.rk_world.specs.Replicas.{IsTold}

@@ -5,7 +5,7 @@ use Rattle.rk_inv_base.proofs.Words.{Placed, journal_of, Line}
 use Rattle.rk_model.specs.Merged.{IsMergedFrom, is_kept}
 use Rattle.rk_inv_base.proofs.rows.Apart.{contains_cases}
 use Rattle.rk_inv_base.proofs.pulls.Joining.{kept_stands, stands_kept}
-use Rattle.rk_inv_logs.proofs.apply.MergedEnds.{mapped}
+use Rattle.rk_inv_lanes.proofs.Below.{mapped}
 use Rattle.rk_runs.proofs.history.Answers.{at_first, behind}
 
 -- what stands in a mapped list is of one that stands in the list

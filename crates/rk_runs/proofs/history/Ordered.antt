@@ -9,7 +9,7 @@ use Rattle.rk_model.specs.Ordered.{Caller, IsOrdered, accepted_by, answer_of, to
 use Rattle.rk_model.proofs.Merging.{merged-IsMergedFrom}
 use Rattle.rk_model.proofs.Order.{kept_if_accepted}
 use Rattle.rk_inv_base.proofs.pulls.Joining.{kept_stands, stands_kept}
-use Rattle.rk_inv_logs.proofs.apply.MergedEnds.{mapped}
+use Rattle.rk_inv_lanes.proofs.Below.{mapped}
 use Rattle.rk_runs.specs.history.Agreement.{Agrees, IsLastKnown, IsOutstanding, IsRecordedIn, IsToldBy, waiting}
 use Rattle.rk_runs.proofs.history.Answers.{one_order}
 use Rattle.rk_runs.proofs.history.Lines.{line_stands, stands_line, unmapped}

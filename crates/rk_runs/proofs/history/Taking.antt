@@ -7,7 +7,7 @@ use Rattle.rk_world.specs.Calls.{asked_by_session}
 use Rattle.rk_world.specs.Client.{Accepted, accepted_by, accepted_of, answer_accepted, done, ignoring, with_range, without_range}
 use Rattle.rk_world.specs.Refusals.{is_for}
 use Rattle.rk_world.specs.declared.event.Taken.{Taken}
-use Rattle.rk_inv_events.proofs.events.Clients.{for_client}
+use Rattle.rk_inv_lanes.proofs.Below.{for_client}
 
 -- something of what a message says and of what a session with an outstanding call makes of it
 pub record IsTaken (T : Body → Accepted → Type 0) (journal : List Placed) (session : Session) (call : Call) : Type 0 where

@@ -10,7 +10,7 @@ use Rattle.rk_world.specs.Client.{done, range_of, turn_by, with_range, without_r
 use Rattle.rk_world.specs.Ledger.{with_accepted}
 use Rattle.rk_inv_base.proofs.calls.CallAsked.{asked_put}
 use Rattle.rk_inv_base.proofs.views.Put.{put_here, put_other}
-use Rattle.rk_inv_events.proofs.events.Clients.{asked_is, is_last_there, may_accept}
+use Rattle.rk_inv_lanes.proofs.Below.{asked_is, is_last_there, may_accept}
 use Rattle.rk_runs.specs.history.Agreement.{Agrees}
 use Rattle.rk_runs.proofs.history.Agreeing.{ChangesAt, IsAnswer, agrees_answered, agrees_asked, agrees_beside, agrees_grown, agrees_looking}
 use Rattle.rk_runs.proofs.history.GoesOn.{same_ledger}

@@ -18,7 +18,7 @@ use Rattle.rk_inv_wellformed.proofs.bytes.Segments.{IsTold as CanBeTold, segment
 use Rattle.rk_inv_wellformed.proofs.lanes.Worlds.{master_of, room_at}
 use Rattle.rk_inv_wellformed.proofs.maps.Lists.{all_find}
 use Rattle.rk_inv_base.proofs.logs.BytesStored.{part_taken}
-use Rattle.rk_inv_events.proofs.events.Storing.{added_front}
+use Rattle.rk_inv_lanes.proofs.Below.{added_front}
 
 -- ---- what a replica stores of a segment
 

@@ -7,7 +7,7 @@ use Rattle.rk_scripts.proofs.Words.{refusal, HasRoom, world_stepped, step, stepp
 use Rattle.rk_scripts.proofs.Words.{Event, view, IsSound, master_other, master_same}
 use Rattle.rk_sound.specs.Logs.{stored_of}
 use Rattle.rk_inv_base.proofs.views.Fresh.{each_fresh}
-use Rattle.rk_inv_tablets.proofs.steady.Walks.{IsKept, Part, accept_keeps, ask_keeps, event_keeps}
+use Rattle.rk_inv_lanes.proofs.Below.{IsKept, Part, accept_keeps, ask_keeps, event_keeps}
 use Rattle.rk_inv_lanes.proofs.applied.Lanes.{few_of}
 use Rattle.rk_scripts.proofs.play.Reaching.{IsReached}
 use Rattle.rk_scripts.proofs.settle.Patient.{ArePatient, IsFresh, put_patient}

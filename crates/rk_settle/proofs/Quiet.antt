@@ -1,11 +1,21 @@
 -- A cluster that is found to be at rest is quiet.
 use Rattle.std.proofs.Common.{◌≡◌, ◌==◌, ℕ, Bool, true, List, [], ◌∷◌, All, length, map, Option, None, Some, refl, is_none, eqb-true}
-use Rattle.rk_scripts.proofs.Words.{list_all, list_any, All-cons, All-map, All-nil, NumberMap, Call, Phase, Owned, Row, Session, Cluster}
-use Rattle.rk_scripts.proofs.Words.{IsQuietCluster, Master, staged, IsOwnedLive, World, live_masters, has_applied_all, has_owners}
-use Rattle.rk_scripts.proofs.Words.{is_owned_live, is_quiet, is_quiet_lane, is_at_rest, is_silent, and_parts}
-use Rattle.std.proofs.lemmas.Bool.{not-true}
+use Rattle.std.proofs.lemmas.Bool.{and_parts, not-true}
 use Rattle.std.proofs.lemmas.List.{nil_from_length}
-use Rattle.rk_world.specs.Quiet.{IsQuiet}
+use Rattle.std.proofs.lemmas.List.Elements.{All-cons, All-map, All-nil}
+use Rattle.std.specs.List.{list_all, list_any}
+use Rattle.rk_types.specs.NumberMap.{NumberMap}
+use Rattle.rk_types.specs.declared.call.Call.{Call}
+use Rattle.rk_tablet_map.specs.declared.phase.Phase.{Phase}
+use Rattle.rk_tablet_map.specs.declared.phase.Phase.TheVariants.{Owned}
+use Rattle.rk_tablet_map.specs.declared.row.Row.{Row}
+use Rattle.rk_world.specs.Client.{Session}
+use Rattle.rk_world.specs.Cluster.{Cluster, IsQuietCluster}
+use Rattle.rk_world.specs.Master.{Master, staged}
+use Rattle.rk_world.specs.Quiet.{IsOwnedLive, IsQuiet}
+use Rattle.rk_world.specs.World.{World, live_masters}
+use Rattle.rk_cluster.specs.Quiet.{has_applied_all, has_owners, is_owned_live, is_quiet, is_quiet_lane}
+use Rattle.rk_settle.specs.Rest.{is_at_rest, is_silent}
 
 -- what a test that all pass tells holds of all
 all_by : {X : Type 0} (test : X → Bool) (Holds : X → Type 0) → ((x : X) → test x ≡ true → Holds x) → (xs : List X) → list_all test xs ≡ true → All Holds xs
