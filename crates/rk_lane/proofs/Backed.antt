@@ -1,6 +1,6 @@
 -- A message reaches a backup: what the event makes of the parts of a lane and of its backups.
 use Rattle.rk_lane.proofs.Words.{◌≡◌, ◌≤◌, ◌<◌, ◌-◌, ◌&&◌, ℕ, zero, suc, true, List, [], ◌∷◌, length, slice_get, Option, None, Some, IfSome}
-use Rattle.rk_lane.proofs.Words.{is_some, refl, sym, ap, subst, ◌∙◌, arith, unwrap_or, length-set, NumberMap, get, Node, Segments}
+use Rattle.rk_lane.proofs.Words.{is_some, refl, sym, ap, subst, ◌∙◌, arith, unwrap_or, length-set, NumberMap, get, Segments}
 use Rattle.rk_lane.proofs.Words.{number_of, replica_of, BackupLane, receiver_of, Body, Message, Backed, Called, backup_step, called_by}
 use Rattle.rk_lane.proofs.Words.{failing, no_segments, stored_after, IsThere, limits_of, Master, refusal, AllTell, Stepped, backed_at}
 use Rattle.rk_lane.proofs.Words.{happened, log_bytes_of, quietly, told_by_replica, told_for, told_to, with_sends, is_backup, with_stored_by}
@@ -15,7 +15,7 @@ use Rattle.rk_world.specs.declared.error.StepError.TheVariants as errors
 use Rattle.rk_world.specs.declared.event.Event.TheVariants as events
 use Rattle.rk_lane.specs.Events.{HasCause}
 use Rattle.rk_lane.proofs.AtEnd.{sends_made}
-use Rattle.rk_lane.proofs.Coordinated.{delivered_is, delivery_allowed, received}
+use Rattle.rk_lane.proofs.Coordinated.{delivered_is, delivery_allowed}
 use Rattle.rk_lane.proofs.Journals.{cut_to, grown_by_none}
 use Rattle.rk_lane.proofs.Keeping.{formed_after, kept_still}
 use Rattle.rk_lane.proofs.MasterWork.{master_is, stands_at}
@@ -75,29 +75,22 @@ logs_of old (bodies.Read wanted) kept there =
 logs_of old _ kept there = tt
 
 -- a message is for a backup that is there
-pub record IsReached {R : Type 0} (old : Parts) (before : List (BackupLane R)) (number backup : ℕ) : Type 0 where
-  pub message : Message
-  pub on : get old.wire.messages number ≡ Some message
-  pub to : message.to ≡ nodes.Backup backup
+pub record IsReached {R : Type 0} (old : Parts) (before : List (BackupLane R)) (message : Message) (backup : ℕ) : Type 0 where
   pub first : 1 ≤ backup
   pub it : BackupLane R
   pub at : slice_get before (backup - 1) ≡ Some it
   pub logs : IsLogOf old.masters.items (log_bytes_of (world_of old [])) message.body
 
-pub reached : {R : Type 0} (old : Parts) (before : List (BackupLane R)) (number backup : ℕ) → IsKept old → receiver_of number old.wire ≡ Some (nodes.Backup backup)
-    → length before ≡ old.backups → IsReached old before number backup
-reached old before number backup kept to count =
-    let it = received number old.wire (nodes.Backup backup) to in
-    let there : (1 ≤ backup) × (backup ≤ old.backups) = subst (IsThere (limits_of (world_of old []))) it.is (kept.formed.formed.wire.each number it.message it.there).to in
+pub reached : {R : Type 0} (old : Parts) (before : List (BackupLane R)) (number : ℕ) (message : Message) (backup : ℕ) → IsKept old
+    → get old.wire.messages number ≡ Some message → message.to ≡ nodes.Backup backup → length before ≡ old.backups → IsReached old before message backup
+reached old before number message backup kept on to count =
+    let there : (1 ≤ backup) × (backup ≤ old.backups) = subst (IsThere (limits_of (world_of old []))) to (kept.formed.formed.wire.each number message on).to in
     let stands = stands_in before (backup - 1) (omega (arith, there.0, there.1, count)) in
     record {
-      message = it.message;
-      on = it.there;
-      to = it.is;
       first = there.0;
       it = stands.it;
       at = stands.at;
-      logs = logs_of old it.message.body kept (can_be_answered old number it.message kept it.there);
+      logs = logs_of old message.body kept (can_be_answered old number message kept on);
     }
 
 -- ---- the event

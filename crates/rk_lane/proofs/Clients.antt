@@ -1,22 +1,19 @@
 -- What a client's turn and its answer make of the parts of a lane: the world after it is that of the parts after it, and all is kept.
 use Rattle.rk_lane.proofs.Words.{◌≡◌, ◌≤◌, ◌+◌, ℕ, Bool, true, false, cond, max, [], ◌∷◌, All, Option, None, Some, is_some, refl, sym, ap}
 use Rattle.rk_lane.proofs.Words.{subst, ◌∙◌, arith, unwrap_or, eqb-true, All-nil, get_same, NumberMap, get, Call, Segments, Traffic}
-use Rattle.rk_lane.proofs.Words.{with_message, Body, Message, Visited, accept, ask, is_asked, is_asked_here, ledger_asked, ledger_requested}
+use Rattle.rk_lane.proofs.Words.{with_message, Message, Visited, accept, ask, is_asked, is_asked_here, ledger_asked, ledger_requested}
 use Rattle.rk_lane.proofs.Words.{ledger_taken, Session, session_accept, session_turn, last_stamp, Ledger, asked_by, is_added, seen_of}
 use Rattle.rk_lane.proofs.Words.{with_asked, MayAct, accept_refusal, where_true, worn, IsFormedWithRoom, with_sends, World, with_all_sent}
 use Rattle.rk_lane.proofs.Words.{with_ledger, with_top, StepError, Seen, Taken, LastCall, IsKept, world_of, AreForMasters, IsFitToSend}
 use Rattle.rk_lane.proofs.Words.{noted, saved, IsVisited, Parts, all_in_map, KeepsTo, all_inserted, keeps_to_more, keeps_to_top}
 use Rattle.std.specs.Prelude.{IfSome, Ok, Result, not, ◌==◌}
 use Rattle.std.proofs.lemmas.Bool.{and_parts}
-use Rattle.rk_message.specs.declared.message.Body.TheVariants as bodies
 use Rattle.rk_world.specs.Base.{no_base}
 use Rattle.rk_world.specs.Calls.{is_call, is_last}
 use Rattle.rk_world.specs.Journal.{is_accepted}
 use Rattle.rk_world.specs.Premises.{IsAfterStart}
 use Rattle.rk_world.specs.Refusals.{ask_refusal}
 use Rattle.rk_world.specs.Runs.{world_visited}
-use Rattle.rk_world.specs.declared.error.StepError.TheVariants as errors
-use Rattle.rk_world.specs.declared.event.Taken.TheVariants as takes
 use Rattle.rk_lane.specs.Visiting.{MayTurn, last_to_note, request_told}
 use Rattle.rk_inv_wellformed.proofs.lanes.Happenings.{formed_accepts, formed_asks}
 use Rattle.rk_lane.proofs.Requests.{asked_for_masters, requested_for_masters, taken_for_masters, turned_to_master}

@@ -1,6 +1,6 @@
 -- What the coordinator of a lane makes of a message and of its turn.
 use Rattle.rk_lane.proofs.Words.{◌≡◌, ◌≤◌, ◌<◌, ℕ, max, List, [], length, All, Option, Some, None, refl, sym, ap, subst, ◌∙◌, arith, EachIn}
-use Rattle.rk_lane.proofs.Words.{NumberMap, get, HasRoomIn, MOST_BYTES, Node, Segments, Traffic, receiver_of, Message, Called, Gave}
+use Rattle.rk_lane.proofs.Words.{NumberMap, get, HasRoomIn, MOST_BYTES, Node, Segments, Message, Called, Gave}
 use Rattle.rk_lane.proofs.Words.{Coordinator, coordinator_step, last_stamp, Ledger, seen_of, fault_of, Stepped, delivered, delivered_to}
 use Rattle.rk_lane.proofs.Words.{happened, with_sends, World, bytes_of_logs, greatest, StepError, Event, Seen, All-map, All-weaker}
 use Rattle.rk_lane.proofs.Words.{below_greatest, greatest_within, all_before, KeepsTo, keeps_to_more, keeps_to_top, IsCoordinated, terms_of}
@@ -16,15 +16,6 @@ use Rattle.rk_lane.proofs.Refusing.{refused_fresh}
 use Rattle.rk_lane.proofs.Sendable.{fit_to_send}
 
 -- ---- a message that is delivered
-
--- the message of a number, which is for this node
-pub record IsReceived (number : ℕ) (wire : Traffic) (to : Node) : Type 0 where
-  pub message : Message
-  pub there : get wire.messages number ≡ Some message
-  pub is : message.to ≡ to
-
-pub received : (number : ℕ) (wire : Traffic) (to : Node) → receiver_of number wire ≡ Some to → IsReceived number wire to
-received number wire to is = grind arith
 
 -- what its receiver makes of a message that is there
 pub delivered_is : (w : World) (number : ℕ) (message : Message) (to : Node) (called : Called) → get w.wire.messages number ≡ Some message → message.to ≡ to

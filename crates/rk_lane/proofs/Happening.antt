@@ -1,9 +1,8 @@
 -- An event is taken: when it may come, and what it makes of parts and backups where it calls no replica.
 use Rattle.rk_lane.proofs.Words.{arith, ◌≡◌, ℕ, false, inr, List, [], Option, None, refl, ◌∙◌, NumberMap, Node, Segments, BackupLane, Gave}
-use Rattle.rk_lane.proofs.Words.{comes_anyway, fault_of, refusal, worn, told_by_replica, StepError, Event, Seen, IsHappened, AreNumbered}
-use Rattle.rk_lane.proofs.Words.{CallsNoReplica, IsMade, IsReady, world_of, Parts}
+use Rattle.rk_lane.proofs.Words.{comes_anyway, fault_of, refusal, worn, told_by_replica, Event, Seen, IsHappened, AreNumbered}
+use Rattle.rk_lane.proofs.Words.{CallsNoReplica, IsMade, IsOfBackup, IsReady, Message, Some, get, receiver_of, world_of, Parts}
 use Rattle.rk_types.specs.declared.node.Node.TheVariants as nodes
-use Rattle.rk_world.specs.declared.error.StepError.TheVariants as errors
 use Rattle.rk_world.specs.declared.event.Event.TheVariants as events
 use Rattle.rk_lane.specs.Made.{IsReadyFor, worn_for}
 
@@ -18,6 +17,20 @@ pub refused_for : (parts : Parts) (event : Event) → worn_for parts event ≡ N
 refused_for parts event fresh = grind (arith, comes_anyway, worn, world_of, fault_of)
 
 -- ---- it calls no replica
+
+-- one that is no delivery
+pub calls_none : (parts : Parts) (event : Event) → ((number : ℕ) → event ≡ events.Deliver number → ⊥) → CallsNoReplica parts event
+calls_none parts (events.Deliver number) other = absurd (other number refl)
+calls_none parts event other = tt
+
+-- nor does a message for another node than a backup
+of_no_backup : (to : Node) → ((backup : ℕ) → to ≡ nodes.Backup backup → ⊥) → IsOfBackup to → ⊥
+of_no_backup (nodes.Backup backup) other is = other backup refl
+of_no_backup to other is = is
+
+pub calls_no_replica : (parts : Parts) (number : ℕ) (message : Message) → get parts.wire.messages number ≡ Some message
+    → ((backup : ℕ) → message.to ≡ nodes.Backup backup → ⊥) → CallsNoReplica parts (events.Deliver number)
+calls_no_replica parts number message there other = grind (arith, receiver_of, there, (of_no_backup message.to other))
 
 -- so nothing is told of a replica
 told_nothing : (parts : Parts) (stored : NumberMap Segments) (event : Event) → CallsNoReplica parts event → Gave None ≡ told_by_replica (world_of parts stored) event None

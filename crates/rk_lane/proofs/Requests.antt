@@ -6,14 +6,13 @@ use Rattle.rk_lane.proofs.Words.{ClientTurn, Session, range_of, session_turn, tu
 use Rattle.rk_lane.proofs.Words.{is_added, with_end, with_ends, with_all_served, with_rebuilt, with_served, master_step, master_turn}
 use Rattle.rk_lane.proofs.Words.{backed_at, delivered, delivered_to, happened, log_bytes_of, losing, quietly, seen_in, with_sends}
 use Rattle.rk_lane.proofs.Words.{worked_at, Stepped, World, has_crashed, is_backup, master_at, with_stored_by, owner_split, row_split}
-use Rattle.rk_lane.proofs.Words.{with_split, Master, Worked, Event, Seen, Taken, LastCall, Served, world_of, AreForMasters, Parts}
+use Rattle.rk_lane.proofs.Words.{with_split, Worked, Event, Seen, Taken, LastCall, Served, world_of, AreForMasters, Parts}
 use Rattle.rk_types.specs.declared.node.Node.TheVariants as nodes
 use Rattle.rk_model.specs.Merged.{is_mutation}
 use Rattle.rk_message.specs.declared.message.Body.TheVariants as bodies
 use Rattle.rk_world.specs.Journal.{has_record}
 use Rattle.rk_world.specs.Ledger.{with_end_of}
 use Rattle.rk_world.specs.Step.{turned}
-use Rattle.rk_world.specs.declared.event.Event.TheVariants as events
 use Rattle.rk_world.specs.declared.event.Taken.TheVariants as takes
 use Rattle.rk_inv_wellformed.proofs.maps.Lists.{either_way}
 use Rattle.rk_lane.specs.Requests.{IsOfMaster}

@@ -1,8 +1,7 @@
 -- What a lane that is well formed after an event has sent in it can be put on the wire.
 use Rattle.rk_lane.proofs.Words.{◌≡◌, ◌≤◌, ◌+◌, ℕ, List, [], ◌∷◌, fold, All, Some, refl, ◌∙◌, arith, All-cons, All-nil, get_other, get_same}
-use Rattle.rk_lane.proofs.Words.{get, Node, MOST_BACKUPS, Traffic, with_message, Message, Limits, limits_of, MOST_MASTERS, IsFormedWithRoom}
+use Rattle.rk_lane.proofs.Words.{get, MOST_BACKUPS, Traffic, with_message, Message, Limits, limits_of, MOST_MASTERS, IsFormedWithRoom}
 use Rattle.rk_lane.proofs.Words.{with_sends, World, keeps_to_top, IsFitToSend, IsSendable}
-use Rattle.rk_types.specs.declared.node.Node.TheVariants as nodes
 use Rattle.rk_world.specs.Formed.{IsFormedWire}
 use Rattle.rk_world.specs.Limits.{IsFormedMessage}
 use Rattle.rk_inv_wellformed.proofs.room.Rises.{sent_all}

@@ -1,5 +1,5 @@
 -- What a backup of a lane in code makes of a message.
-use Rattle.std.specs.Prelude.{◌≡◌, ◌≤◌, ◌+◌, ◌-◌, ℕ, false, List, length, slice_set, Option, IfSome, None, ⊤}
+use Rattle.std.specs.Prelude.{◌≡◌, ◌≤◌, ◌+◌, ◌-◌, ℕ, false, List, length, slice_set, Option, IfSome, ⊤}
 use Rattle.rk_types.specs.declared.held.TheConstants.{SEGMENT_BYTES}
 use Rattle.rk_types.specs.declared.node.Node.{Node}
 use Rattle.rk_log.specs.Log.{bytes_of}

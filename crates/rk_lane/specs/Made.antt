@@ -1,10 +1,10 @@
 -- What an event makes of the parts of a lane in code, where it calls no replica.
 use Rattle.std.specs.Prelude.{◌≡◌, ◌≢◌, ℕ, [], if◌then◌else◌, length, Option, Some, None, IfSome, ⊤}
-use Rattle.rk_types.specs.NumberMap.{NumberMap}
+use Rattle.rk_types.specs.NumberMap.{NumberMap, get}
 use Rattle.rk_types.specs.declared.node.Node.{Node}
 use Rattle.rk_types.specs.declared.node.Node.TheVariants as nodes
 use Rattle.rk_outside.specs.Segments.{Segments}
-use Rattle.rk_message.specs.Wire.{receiver_of}
+use Rattle.rk_message.specs.Wire.{Traffic, receiver_of}
 use Rattle.rk_world.specs.Backup.{Called}
 use Rattle.rk_world.specs.Ledger.{Ledger}
 use Rattle.rk_world.specs.Refusals.{comes_anyway, fault_of, worn}
@@ -70,7 +70,11 @@ abbrev pub CallsNoReplica : Parts → Event → Type 0
 CallsNoReplica parts (events.Deliver number) = IfSome (receiver_of number parts.wire) (λ to. IsOfBackup to → ⊥)
 CallsNoReplica parts event = ⊤
 
--- an event delivers a message to a backup
-pub record IsForBackup (parts : Parts) (event : Event) (number backup : ℕ) : Type 0 where
-  pub is : event ≡ events.Deliver number
-  pub to : receiver_of number parts.wire ≡ Some (nodes.Backup backup)
+-- an event delivers no message
+abbrev pub IsNoDelivery : Event → Type 0
+IsNoDelivery (events.Deliver number) = ⊥
+IsNoDelivery event = ⊤
+
+-- no message was read: there is none of this number, or memory was wanting
+abbrev pub IsUnread : Traffic → ℕ → StepError → Type 0
+IsUnread wire number error = error ≢ errors.NoMemory → (get wire.messages number ≡ None) × (error ≡ errors.NoMessage number)

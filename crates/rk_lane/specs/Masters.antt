@@ -1,9 +1,7 @@
 -- One master among those of a lane in code.
 use Rattle.std.specs.Prelude.{◌≡◌, ◌≤◌, ◌-◌, ℕ, List, All, length, Option, Some, slice_get, slice_set}
-use Rattle.rk_types.specs.NumberMap.{get}
 use Rattle.rk_types.specs.declared.held.TheConstants.{SEGMENT_BYTES}
 use Rattle.rk_entry.specs.Spelling.{spelled}
-use Rattle.rk_message.specs.Wire.{Traffic}
 use Rattle.rk_message.specs.declared.message.Message.{Message}
 use Rattle.rk_world.specs.Master.{Master}
 use Rattle.rk_world.specs.Worked.{Worked}
@@ -15,10 +13,10 @@ use Rattle.rk_master.specs.declared.work.Worked.{Worked as Work}
 abbrev pub IsAt : List (Option Master) → ℕ → Master → Type 0
 IsAt masters number master = slice_get masters (number - 1) ≡ Some (Some master)
 
--- the master of a number can take the message of a number
-abbrev pub CanTakeThere : Traffic → ℕ → List (Option Master) → ℕ → Type 0
-CanTakeThere wire number masters master =
-    (message : Message) (it : Master) → get wire.messages number ≡ Some message → IsAt masters master it → CanTake it message
+-- the master of a number can take a message
+abbrev pub CanTakeThere : Message → List (Option Master) → ℕ → Type 0
+CanTakeThere message masters master =
+    (it : Master) → IsAt masters master it → CanTake it message
 
 -- each entry of a master's log fits a segment
 abbrev pub EachEntryFits : Master → Type 0

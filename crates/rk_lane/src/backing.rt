@@ -2,8 +2,6 @@
 ghost use Rattle.std.specs.Prelude.{◌≡◌, ◌≤◌, ◌+◌, ◌-◌, ℕ, true, List, length, slice_get, Some, IfOk, IfErr};
 ghost use Rattle.std.specs.Option.{option_to_list};
 ghost use Rattle.rk_types.specs.NumberMap.{get};
-ghost use Rattle.rk_message.specs.Wire.{receiver_of};
-ghost use Rattle.rk_message.specs.declared.message.Message.{Message as Sent};
 ghost use Rattle.rk_world.specs.Premises.{IsMaster};
 ghost use Rattle.rk_world.specs.declared.event.Event.TheVariants as events;
 ghost use Rattle.rk_lane.specs.Backing.{CanBeAnswered, IsBackedAt, IsBackedBy, IsLogOf, IsUnanswered, IsUnansweredAt, IsWithinSegment, sending};
@@ -13,13 +11,13 @@ ghost use Rattle.rk_lane.specs.Made.{IsReady};
 
 use crate::finishing::{finish_one, journal_length};
 use crate::masters::segment_at;
-use crate::messages::message_of;
+use crate::messages::Arrival;
 use crate::parts::Parts;
 use crate::seen::lost;
 use rk_backup::BackupLane;
 use rk_backup_node::{take_append, take_read};
 use rk_master::MasterLane;
-use rk_message::{Append, Body, Message, ReadSegment, Wire};
+use rk_message::{Append, Body, Message, ReadSegment};
 use rk_outside::{Lost, Replica};
 use rk_types::{Node, SEGMENT_BYTES};
 use rk_world::{Seen, StepError};
@@ -30,28 +28,28 @@ pub(crate) fn deliver_to_backup<R: Replica + Drop>(
     parts: &mut Parts,
     backups: &mut Vec<BackupLane<R>>,
     alloc: Global,
-    number: u64,
+    arrival: &Arrival,
     backup: u8,
 ) -> Result<Seen, StepError>
-    requires ready { IsReady parts.old (events.Deliver number) }
-    requires to { receiver_of number parts.old.wire ≡ Some (Node.Backup backup) }
+    requires ready { IsReady parts.old (events.Deliver arrival.now.number) }
+    requires there { get parts.old.wire.messages arrival.now.number ≡ Some arrival.now.message }
+    requires to { arrival.now.message.to ≡ Node.Backup backup }
     requires count { length backups.old.items ≡ parts.old.backups }
     requires numbered { AreNumbered backups.old.items }
-    ensures ok { IfOk result (IsHappened R.segments R.faults (events.Deliver number) parts.old backups.old.items parts.new backups.new.items) }
-    ensures err { IfErr result (IsUnhappened R.faults (events.Deliver number) parts.old backups.old.items parts.new backups.new.items) }
+    ensures ok { IfOk result (IsHappened R.segments R.faults (events.Deliver arrival.now.number) parts.old backups.old.items parts.new backups.new.items) }
+    ensures err { IfErr result (IsUnhappened R.faults (events.Deliver arrival.now.number) parts.old backups.old.items parts.new backups.new.items) }
 {
     let records = journal_length(&parts.ledger);
-    match answer_at(&parts.wire, number, &parts.masters, backups, alloc, backup) {
+    match answer_at(&arrival.message, &parts.masters, backups, alloc, backup) {
         Ok(send) => finish_one(parts, send, records),
         Err(Lost::Failed) => Ok(lost()),
         Err(Lost::NoMemory) => Err(StepError::NoMemory),
     }
 }
 
-// The backup of a number takes the message of a number: what it sends, if anything.
+// The backup of a number takes a message: what it sends, if anything.
 fn answer_at<R: Replica + Drop>(
-    wire: &Wire,
-    number: u64,
+    message: &Message,
     masters: &[MasterLane],
     backups: &mut Vec<BackupLane<R>>,
     alloc: Global,
@@ -59,19 +57,16 @@ fn answer_at<R: Replica + Drop>(
 ) -> Result<Option<Message>, Lost>
     requires first { 1 ≤ backup }
     requires last { backup ≤ length backups.old.items }
-    requires lawful { (message : Sent) → get wire.now.messages number ≡ Some message → CanBeAnswered (length masters.now) message.body }
-    ensures ok { IfOk result (λ send. (message : Sent) (before : BackupLane R) (log : ℕ → ℕ → List ℕ) → get wire.now.messages number ≡ Some message
-        → slice_get backups.old.items (backup - 1) ≡ Some before → IsLogOf masters.now log message.body
-        → IsBackedAt R.segments R.faults backups.old.items backups.new.items backup before message log (sending (option_to_list send))) }
-    ensures err { IfErr result (λ cause. (message : Sent) (before : BackupLane R) (log : ℕ → ℕ → List ℕ) → get wire.now.messages number ≡ Some message
-        → slice_get backups.old.items (backup - 1) ≡ Some before → IsLogOf masters.now log message.body
-        → IsUnansweredAt R.segments R.faults backups.old.items backups.new.items backup before message log cause) }
+    requires lawful { CanBeAnswered (length masters.now) message.now.body }
+    ensures ok { IfOk result (λ send. (before : BackupLane R) (log : ℕ → ℕ → List ℕ)
+        → slice_get backups.old.items (backup - 1) ≡ Some before → IsLogOf masters.now log message.now.body
+        → IsBackedAt R.segments R.faults backups.old.items backups.new.items backup before message.now log (sending (option_to_list send))) }
+    ensures err { IfErr result (λ cause. (before : BackupLane R) (log : ℕ → ℕ → List ℕ)
+        → slice_get backups.old.items (backup - 1) ≡ Some before → IsLogOf masters.now log message.now.body
+        → IsUnansweredAt R.segments R.faults backups.old.items backups.new.items backup before message.now log cause) }
 {
     let it = &mut backups[backup as usize - 1];
-    let Ok(message) = message_of(wire, number) else {
-        return Err(Lost::NoMemory);
-    };
-    answer(it, alloc, &message, masters)
+    answer(it, alloc, message, masters)
 }
 
 // A backup takes a message: what it sends, if anything.

@@ -1,8 +1,6 @@
 // What the coordinator of a lane makes of a message, and of its turn.
 ghost use Rattle.std.specs.Prelude.{◌≡◌, length, None, Some, IfOk, IfErr, OnErr};
 ghost use Rattle.rk_types.specs.NumberMap.{get};
-ghost use Rattle.rk_message.specs.Wire.{receiver_of};
-ghost use Rattle.rk_message.specs.declared.message.Message.{Message as Sent};
 ghost use Rattle.rk_world.specs.Backup.{Gave};
 ghost use Rattle.rk_world.specs.World.{greatest};
 ghost use Rattle.rk_world.specs.declared.event.Event.TheVariants as events;
@@ -10,28 +8,24 @@ ghost use Rattle.rk_lane.specs.Coordinating.{IsCoordinated, terms_of};
 ghost use Rattle.rk_lane.specs.Made.{IsFault, IsMade, IsReady};
 
 use crate::finishing::{finish, journal_length};
-use crate::messages::message_of;
+use crate::messages::Arrival;
 use crate::parts::Parts;
 use rk_coordinator::CoordinatorLane;
 use rk_ledger::LedgerLane;
-use rk_message::{Body, Message, Wire};
+use rk_message::{Body, Message};
 use rk_types::{NoMemory, Node};
 use rk_world::{Seen, StepError};
 
 /// A message reaches the coordinator. What that takes of it, and a step for each row.
-pub(crate) fn tell_coordinator(parts: &mut Parts, number: u64) -> Result<Seen, StepError>
-    requires ready { IsReady parts.old (events.Deliver number) }
-    requires to { receiver_of number parts.old.wire ≡ Some Node.Coordinator }
-    ensures ok { IfOk result (IsMade parts.old (events.Deliver number) (Gave None) parts.new) }
-    ensures err { IfErr result (IsFault parts.old (events.Deliver number) parts.new) }
+pub(crate) fn tell_coordinator(parts: &mut Parts, arrival: Arrival) -> Result<Seen, StepError>
+    requires ready { IsReady parts.old (events.Deliver arrival.number) }
+    requires there { get parts.old.wire.messages arrival.number ≡ Some arrival.message }
+    requires to { arrival.message.to ≡ Node.Coordinator }
+    ensures ok { IfOk result (IsMade parts.old (events.Deliver arrival.number) (Gave None) parts.new) }
+    ensures err { IfErr result (IsFault parts.old (events.Deliver arrival.number) parts.new) }
 {
     let records = journal_length(&parts.ledger);
-    let Ok(sends) = handle_from(
-        &mut parts.wire,
-        number,
-        &mut parts.coordinator,
-        &mut parts.ledger,
-    ) else {
+    let Ok(sends) = handle(&mut parts.coordinator, &mut parts.ledger, &arrival.message) else {
         return Err(StepError::NoMemory);
     };
     let stamp = parts.ledger.last_stamp();
@@ -52,26 +46,6 @@ pub(crate) fn turn_coordinator(parts: &mut Parts) -> Result<Seen, StepError>
         return Err(StepError::NoMemory);
     };
     finish(parts, sends, records)
-}
-
-// The coordinator takes the message of a number, and the ledger a rebuild that it took. After `NoMemory` the ledger is as it
-// was; the wire stays in any case.
-fn handle_from(
-    wire: &mut Wire,
-    number: u64,
-    coordinator: &mut CoordinatorLane,
-    ledger: &mut LedgerLane,
-) -> Result<Vec<Message>, NoMemory>
-    ensures ok { IfOk result (λ sends. (message : Sent) → get wire.old.messages number ≡ Some message
-        → IsCoordinated coordinator.old ledger.old message coordinator.new ledger.new sends.items) }
-    ensures err { OnErr result (ledger.new ≡ ledger.old) }
-    ensures wire { wire.new ≡ wire.old }
-{
-    let wire: &Wire = wire;
-    let Ok(message) = message_of(wire, number) else {
-        return Err(NoMemory);
-    };
-    handle(coordinator, ledger, &message)
 }
 
 // The coordinator takes a message, and the ledger a rebuild that it took. After `NoMemory` the ledger is as it was.

@@ -1,17 +1,18 @@
 // An event of a lane, by its kind.
-ghost use Rattle.std.specs.Prelude.{◌≡◌, ◌≢◌, [], true, length, None, Err, IfOk, IfErr, IfSome};
+ghost use Rattle.std.specs.Prelude.{◌≡◌, ◌≢◌, [], true, length, None, Err, IfOk, IfErr};
 ghost use Rattle.rk_world.specs.Backup.{Gave};
 ghost use Rattle.rk_world.specs.Refusals.{comes_anyway};
 ghost use Rattle.rk_world.specs.declared.event.Event.TheVariants as events;
 ghost use Rattle.rk_lane.specs.Events.{MayStep};
 ghost use Rattle.rk_lane.specs.Happened.{IsHappened, IsUnhappened};
 ghost use Rattle.rk_lane.specs.Lane.{AreNumbered};
-ghost use Rattle.rk_lane.specs.Made.{CallsNoReplica, IsFault, IsForBackup, IsMade, IsReady, IsReadyFor, worn_for as worn_for_lem};
+ghost use Rattle.rk_lane.specs.Made.{IsFault, IsMade, IsNoDelivery, IsReady, IsReadyFor, worn_for as worn_for_lem};
 ghost use Rattle.rk_lane.specs.Parts.{IsKept, world_of};
 
 use crate::backing::deliver_to_backup;
 use crate::changes::{add_client, add_tablet, crash, forget, migrate};
 use crate::delivering::deliver_to;
+use crate::messages::{Arrival, message_of};
 use crate::notices::notice;
 use crate::parts::Parts;
 use crate::resending::send_again;
@@ -78,10 +79,10 @@ fn happen_else<R: Replica + Drop>(
     if let Some(number) = worn_for(parts, event) {
         return Err(StepError::Worn(number));
     }
-    if let Some((number, backup)) = for_backup(parts, event) {
-        return deliver_to_backup(parts, backups, alloc, number, backup);
+    match event {
+        Event::Deliver(number) => deliver(parts, backups, alloc, number),
+        _ => happen_within(parts, alloc, event),
     }
-    happen_within(parts, alloc, event)
 }
 
 // The number of a lane that is too great for an event; Crash and Forget come anyway.
@@ -95,27 +96,10 @@ fn worn_for(parts: &Parts, event: Event) -> Option<u64>
     }
 }
 
-// The numbers of a message and of the backup to which an event delivers it; none for each other event.
-fn for_backup(parts: &Parts, event: Event) -> Option<(u64, u8)>
-    ensures there { IfSome result (λ it. IsForBackup parts.now event it.0 it.1) }
-    ensures other { result ≡ None → CallsNoReplica parts.now event }
-{
-    let Event::Deliver(number) = event else {
-        return None;
-    };
-    let Ok(to) = parts.wire.address(number) else {
-        return None;
-    };
-    let Node::Backup(backup) = to else {
-        return None;
-    };
-    Some((number, backup))
-}
-
-// Takes an event that calls no replica: each one but the delivery of a message to a backup.
+// Takes an event that is no delivery.
 fn happen_within(parts: &mut Parts, alloc: Global, event: Event) -> Result<Seen, StepError>
     requires ready { IsReadyFor parts.old event }
-    requires other { CallsNoReplica parts.old event }
+    requires other { IsNoDelivery event }
     ensures ok { IfOk result (IsMade parts.old event (Gave None) parts.new) }
     ensures err { IfErr result (IsFault parts.old event parts.new) }
     ensures free { comes_anyway event ≡ true → result ≢ Err StepError.NoMemory }
@@ -127,7 +111,7 @@ fn happen_within(parts: &mut Parts, alloc: Global, event: Event) -> Result<Seen,
             master,
         } => add_tablet(parts, tablet, range, master),
         Event::AddClient(client) => add_client(parts, client),
-        Event::Deliver(number) => deliver(parts, number),
+        Event::Deliver(_) => unreachable!(),
         Event::Forget(number) => forget(parts, number),
         Event::Turn(node) => turn(parts, node),
         Event::Again(client) => send_again(parts, alloc, client),
@@ -138,15 +122,23 @@ fn happen_within(parts: &mut Parts, alloc: Global, event: Event) -> Result<Seen,
     }
 }
 
-// The message of a number reaches its receiver, which is no backup.
-fn deliver(parts: &mut Parts, number: u64) -> Result<Seen, StepError>
+// The message of a number reaches its receiver; one for a client is not delivered. One search.
+fn deliver<R: Replica + Drop>(
+    parts: &mut Parts,
+    backups: &mut Vec<BackupLane<R>>,
+    alloc: Global,
+    number: u64,
+) -> Result<Seen, StepError>
     requires ready { IsReady parts.old (events.Deliver number) }
-    requires other { CallsNoReplica parts.old (events.Deliver number) }
-    ensures ok { IfOk result (IsMade parts.old (events.Deliver number) (Gave None) parts.new) }
-    ensures err { IfErr result (IsFault parts.old (events.Deliver number) parts.new) }
+    requires count { length backups.old.items ≡ parts.old.backups }
+    requires numbered { AreNumbered backups.old.items }
+    ensures ok { IfOk result (IsHappened R.segments R.faults (events.Deliver number) parts.old backups.old.items parts.new backups.new.items) }
+    ensures err { IfErr result (IsUnhappened R.faults (events.Deliver number) parts.old backups.old.items parts.new backups.new.items) }
 {
-    let Ok(to) = parts.wire.address(number) else {
-        return Err(StepError::NoMessage(number));
-    };
-    deliver_to(parts, number, to)
+    let message = message_of(&parts.wire, number)?;
+    let arrival = Arrival { number, message };
+    if let Node::Backup(backup) = arrival.message.to {
+        return deliver_to_backup(parts, backups, alloc, &arrival, backup);
+    }
+    deliver_to(parts, arrival)
 }

@@ -1,8 +1,6 @@
 // One master among those of a lane.
 ghost use Rattle.std.specs.Prelude.{◌≡◌, ◌≤◌, ◌-◌, ◌^◌, true, Some, None, min, length, slice_get, slice_set, IfOk, OnOk, IfSome};
 ghost use Rattle.rk_log.specs.Log.{bytes_of};
-ghost use Rattle.rk_message.specs.declared.message.Message.{Message as Sent};
-ghost use Rattle.rk_types.specs.NumberMap.{get};
 ghost use Rattle.rk_world.specs.Master.{Master, log_bytes};
 ghost use Rattle.rk_world.specs.MasterStep.{master_step};
 ghost use Rattle.rk_world.specs.MasterTurn.{master_turn};
@@ -14,29 +12,22 @@ ghost use Rattle.rk_master.specs.Taking.{CanTake};
 ghost use Rattle.rk_lane.specs.Masters.{CanTakeThere, EachEntryFits, IsAt, IsWorkAt};
 ghost use Rattle.rk_lane.specs.Resting.{SendsNothing};
 
-use crate::messages::message_of;
 use rk_master::{MasterLane, Worked};
-use rk_message::{Body, Wire};
+use rk_message::{Body, Message};
 use rk_types::{NoMemory, Range};
 
-/// A master takes the message of a number. The wire stays.
+/// A master takes a message.
 pub(crate) fn step_master(
-    wire: &mut Wire,
-    number: u64,
+    message: Message,
     masters: &mut Vec<MasterLane>,
     master: u8,
 ) -> Result<(Worked, u64), NoMemory>
     requires there { IsMaster (length masters.old.items) master }
-    requires take { CanTakeThere wire.old number masters.old.items master }
-    ensures ok { IfOk result (λ it. (message : Sent) (before : Master) → get wire.old.messages number ≡ Some message → IsAt masters.old.items master before
+    requires take { CanTakeThere message masters.old.items master }
+    ensures ok { IfOk result (λ it. (before : Master) → IsAt masters.old.items master before
         → IsWorkAt masters.old.items master (master_step before message) (seen_in_lem message.body) masters.new.items it.0 it.1) }
-    ensures wire { wire.new ≡ wire.old }
     ensures count { length masters.new.items ≡ length masters.old.items }
 {
-    let wire: &Wire = wire;
-    let Ok(message) = message_of(wire, number) else {
-        return Err(NoMemory);
-    };
     let seen = seen_in(&message.body);
     let it = &mut masters[master as usize - 1];
     let work = it.handle(message)?;

@@ -1,16 +1,29 @@
-// How a message is read from the wire.
-ghost use Rattle.std.specs.Prelude.{◌≡◌, Some, IfOk};
+// How a message that is delivered is read from the wire.
+ghost use Rattle.std.specs.Prelude.{◌≡◌, Some, IfOk, IfErr};
 ghost use Rattle.rk_types.specs.NumberMap.{get};
+ghost use Rattle.rk_lane.specs.Made.{IsUnread};
 
 use rk_message::{Message, Wire};
-use rk_types::NoMemory;
+use rk_world::StepError;
 
-/// The message of a number, read from its frame; `NoMemory` also where it is not on the wire. A search, and the frame is read.
-pub(crate) fn message_of(wire: &Wire, number: u64) -> Result<Message, NoMemory>
-    ensures { IfOk result (λ message. get wire.now.messages number ≡ Some message) }
+/// A message that is delivered, with its number on the wire.
+#[derive(Drop)]
+pub(crate) struct Arrival {
+    pub number: u64,
+    pub message: Message,
+}
+
+/// The message of a number, read from its frame. `NoMessage` comes exactly where it was never sent or is forgotten, unless memory runs out.
+/// One search, and the frame is read.
+pub(crate) fn message_of(wire: &Wire, number: u64) -> Result<Message, StepError>
+    ensures ok { IfOk result (λ message. get wire.now.messages number ≡ Some message) }
+    ensures err { IfErr result (IsUnread wire.now number) }
 {
-    match wire.frame(number) {
-        Ok(frame) => frame.message(),
-        Err(_) => Err(NoMemory),
-    }
+    let Ok(frame) = wire.frame(number) else {
+        return Err(StepError::NoMessage(number));
+    };
+    let Ok(message) = frame.message() else {
+        return Err(StepError::NoMemory);
+    };
+    Ok(message)
 }

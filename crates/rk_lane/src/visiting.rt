@@ -13,12 +13,11 @@ ghost use Rattle.rk_lane.specs.Sends.{IsFitToSend};
 ghost use Rattle.rk_lane.specs.Visits.{IsVisited, MayHaveTurned};
 ghost use Rattle.rk_lane.specs.Visiting.{MayTurn, accepted_by, last_to_note, noted, place_told, request_told, saved};
 
-use crate::messages::message_of;
 use crate::parts::{Parts, WORN_NUMBER};
 use crate::seen::quiet;
 use crate::short::is_short;
 use rk_ledger::LedgerLane;
-use rk_message::{Body, Message, Wire};
+use rk_message::{Body, Frame, Message, Wire};
 use rk_session::Session;
 use rk_types::{Call, NoMemory, Node, Op, hash, lane_of};
 use rk_world::{LastCall, Seen, StepError, Taken};
@@ -60,13 +59,11 @@ pub(crate) fn accept(
     ensures parts { OnErr result (parts.new ≡ parts.old) }
     ensures session { OnErr result (session.new ≡ session.old) }
 {
-    if let Some(cause) = accept_refusal(parts, number, session.client()) {
-        return Err(cause);
-    }
+    let frame = frame_for(parts, number, session.client())?;
     if !is_asked_here(parts, session) {
         return Ok(took(Taken::Ignored));
     }
-    let Ok(message) = message_of(&parts.wire, number) else {
+    let Ok(message) = frame.message() else {
         return Err(StepError::NoMemory);
     };
     Ok(took(take(&mut parts.ledger, session, message)))
@@ -134,21 +131,23 @@ fn too_great(number: u64) -> Option<u64>
     None
 }
 
-// Why a client cannot take the message of a number: it is not on the wire, or is for another node, or the client was not
-// added.
-fn accept_refusal(parts: &Parts, number: u64, client: u32) -> Option<StepError>
-    ensures { result ≡ refusals.accept_refusal (world_of parts.now []) number client (get parts.now.wire.messages number) }
+// The frame of the message of a number, for a client to take; or why it cannot take it: it is not on the wire, or is for another node, or
+// the client was not added.
+fn frame_for<'a>(parts: &'a Parts, number: u64, client: u32) -> Result<&'a Frame, StepError>
+    ensures there { IfOk result (λ frame. get parts.now.wire.messages number ≡ Some frame.now) }
+    ensures allowed { OnOk result (refusals.accept_refusal (world_of parts.now []) number client (get parts.now.wire.messages number) ≡ None) }
+    ensures err { IfErr result (λ e. refusals.accept_refusal (world_of parts.now []) number client (get parts.now.wire.messages number) ≡ Some e) }
 {
-    let Ok(to) = parts.wire.address(number) else {
-        return Some(StepError::NoMessage(number));
+    let Ok(frame) = parts.wire.frame(number) else {
+        return Err(StepError::NoMessage(number));
     };
-    if !is_for(client, to) {
-        return Some(StepError::Address(number));
+    if !is_for(client, frame.to()) {
+        return Err(StepError::Address(number));
     }
     if !parts.ledger.is_added(client) {
-        return Some(StepError::Stranger(client));
+        return Err(StepError::Stranger(client));
     }
-    None
+    Ok(frame)
 }
 
 // Whether a node is this client.

@@ -1,6 +1,6 @@
 // What a master of a lane makes of a message, and of its turn.
 ghost use Rattle.std.specs.Prelude.{◌≡◌, ◌≤◌, ◌<◌, ◌^◌, length, map, true, None, Some, IfOk, IfErr, OnOk, OnErr};
-ghost use Rattle.rk_message.specs.Wire.{receiver_of};
+ghost use Rattle.rk_types.specs.NumberMap.{get};
 ghost use Rattle.rk_world.specs.Backup.{Gave};
 ghost use Rattle.rk_world.specs.Premises.{IsMaster};
 ghost use Rattle.rk_world.specs.Replies.{filled};
@@ -12,6 +12,7 @@ ghost use Rattle.rk_lane.specs.Working.{IsRaised, IsSettled, IsUnsettled, IsWeig
 
 use crate::finishing::{finish, journal_length};
 use crate::masters::{bytes_at, counter_at, records_at, rests_at, step_master, turn_master};
+use crate::messages::Arrival;
 use crate::parts::Parts;
 use crate::seen::{lost, quiet};
 use rk_ledger::LedgerLane;
@@ -28,18 +29,23 @@ const MOST_BYTES: u64 = 0x4000_0000;
 const MOST_RECORDS: u64 = 0x4000_0000;
 
 /// A message reaches a master; one that has crashed loses it. What the master takes of it.
-pub(crate) fn tell_master(parts: &mut Parts, number: u64, master: u8) -> Result<Seen, StepError>
-    requires ready { IsReady parts.old (events.Deliver number) }
-    requires to { receiver_of number parts.old.wire ≡ Some (Node.Master master) }
-    ensures ok { IfOk result (IsMade parts.old (events.Deliver number) (Gave None) parts.new) }
-    ensures err { IfErr result (IsFault parts.old (events.Deliver number) parts.new) }
+pub(crate) fn tell_master(
+    parts: &mut Parts,
+    arrival: Arrival,
+    master: u8,
+) -> Result<Seen, StepError>
+    requires ready { IsReady parts.old (events.Deliver arrival.number) }
+    requires there { get parts.old.wire.messages arrival.number ≡ Some arrival.message }
+    requires to { arrival.message.to ≡ Node.Master master }
+    ensures ok { IfOk result (IsMade parts.old (events.Deliver arrival.number) (Gave None) parts.new) }
+    ensures err { IfErr result (IsFault parts.old (events.Deliver arrival.number) parts.new) }
 {
     if parts.has_crashed(master) {
         return Ok(lost());
     }
     let records = journal_length(&parts.ledger);
     let before = bytes_at(&parts.masters, master);
-    let Ok((work, seen)) = step_master(&mut parts.wire, number, &mut parts.masters, master) else {
+    let Ok((work, seen)) = step_master(arrival.message, &mut parts.masters, master) else {
         return Err(StepError::NoMemory);
     };
     if !weigh(parts, master, before) {

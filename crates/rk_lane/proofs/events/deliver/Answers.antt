@@ -1,9 +1,12 @@
-use Rattle.rk_lane.proofs.Words.{Option, IfSome, subst, Node, IsOfBackup}
+use Rattle.rk_lane.proofs.Words.{IfOk-weaker}
+use Rattle.rk_lane.proofs.Happening.{calls_no_replica, made_happened}
+use Rattle.rk_world.specs.declared.event.Event.TheVariants as events
 use Rattle.rk_lane.proofs.events.deliver.Goals as goal
 
-pub deliver_to-requires : goal.deliver_to-requires
-deliver_to-requires c = record {
-  ready = c.requires.ready;
-  to = c.in-Ok.ensures.ok;
-  other = subst (λ (found : Option Node). IfSome found (λ to. IsOfBackup to → ⊥)) c.in-Ok.ensures.ok c.requires.other;
-}
+pub returns-clause-ok : goal.returns-clause-ok
+returns-clause-ok g c =
+    IfOk-weaker c.deliver_to.result _ _
+    (λ seen made.
+    made_happened g.R.Replica.segments g.R.Replica.faults c.args.parts.now c.deliver_to.new.parts (events.Deliver c.args.number) c.args.backups.now.items c.requires.numbered
+    c.requires.ready.fresh seen (calls_no_replica c.args.parts.now c.args.number c.in_ok-message.message c.in_ok-message.ensures.ok c.in_default.not-Backup) made)
+    c.deliver_to.ensures.ok

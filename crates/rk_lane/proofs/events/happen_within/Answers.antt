@@ -1,12 +1,6 @@
-use Rattle.rk_lane.proofs.Words.{[], refl, subst, Event, MayStep, CallsNoReplica, world_of}
+use Rattle.rk_lane.proofs.Words.{[], refl, subst, Event, MayStep, world_of}
 use Rattle.rk_lane.proofs.Happening.{ready_at}
 use Rattle.rk_lane.proofs.events.happen_within.Goals as goal
-
-pub deliver-requires : goal.deliver-requires
-deliver-requires c = record {
-  ready = ready_at c.args.parts.now c.args.event _ c.in-Deliver.is refl c.requires.ready;
-  other = subst (CallsNoReplica c.args.parts.now) c.in-Deliver.is c.requires.other;
-}
 
 pub forget-requires : goal.forget-requires
 forget-requires c = c.requires.ready.kept

@@ -1,7 +1,7 @@
-use Rattle.rk_lane.proofs.Words.{◌≡◌, map, take, List, ap, sym, subst, ◌∙◌, refl, IfOk-weaker, IfErr-weaker, Message, Ledger, filled}
-use Rattle.rk_lane.proofs.Words.{Served, marks_of, with_journal, IsFinished, IsFitToSend, IsRaised, IsSettled, ledger_noted, ledger_worked}
+use Rattle.rk_lane.proofs.Words.{◌≡◌, map, List, ap, sym, subst, ◌∙◌, IfOk-weaker, IfErr-weaker, Message, Ledger, filled}
+use Rattle.rk_lane.proofs.Words.{Served, marks_of, IsFinished, IsFitToSend, IsRaised, IsSettled, ledger_noted, ledger_worked}
 use Rattle.rk_lane.proofs.Words.{sends_worked, Parts}
-use Rattle.rk_lane.proofs.Settling.{settled_by_nothing, settled_from, unsettled_by, unsettled_from}
+use Rattle.rk_lane.proofs.Settling.{settled_by_nothing, settled_from, unsettled_from}
 use Rattle.rk_lane.proofs.working.settle.Goals as goal
 
 pub returns-then-is_nothing-clause-ok : goal.returns-then-is_nothing-clause-ok
