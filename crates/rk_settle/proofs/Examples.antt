@@ -1,11 +1,11 @@
 -- Worked examples: serve and settle answer a put, and advance brings a migration to its grant.
-use Rattle.std.specs.Prelude.{Some, ◌≡◌, [], ◌∷◌, length, refl, replicate, true}
+use Rattle.std.specs.Prelude.{Some, ◌≡◌, ℕ, Bool, List, [], ◌∷◌, length, refl, replicate, false, true}
 use Rattle.rk_types.specs.Hashing.{hash_of}
 use Rattle.rk_types.specs.Held.{spelled_of}
 use Rattle.rk_types.specs.declared.call.Outcome.TheVariants.{Written}
 use Rattle.rk_types.specs.declared.node.Said.TheVariants as says
 use Rattle.rk_transfer.specs.declared.role.Role.TheVariants as roles
-use Rattle.rk_settle.proofs.Words.{Moving, advance, Granted, course_of, is_at_rest, serve, settle}
+use Rattle.rk_settle.proofs.Words.{Course, Moving, Said, Task, advance, Granted, course_of, is_at_rest, serve, settle}
 use Rattle.rk_entry.specs.Ends.{range_bytes, outcome_bytes, end_bytes}
 use Rattle.rk_entry.specs.Entries.{spelled_all}
 use Rattle.rk_entry.specs.Lists.{ends_bytes, segments_bytes}
@@ -17,40 +17,30 @@ use Rattle.rk_settle.specs.declared.task.Task.TheVariants.{Begins}
 use Rattle.rk_settle.specs.declared.error.SettleError.TheVariants.{Replica}
 use Rattle.rk_settle.proofs.Scene.{calling, course_after, migrating, shown_of}
 
--- serve brings a put to its end
-served_ends : (course_after 60 calling (serve calling 1)).tasks ≡ []
-unfolding hash_of spelled_of spelled_all spelled front_bytes body_length head_bytes held_bytes refused_bytes carried_bytes joined_bytes mark_of number_bytes key_bytes value_bytes range_bytes outcome_bytes end_bytes ends_bytes segments_bytes
-served_ends = refl
+-- what is seen of a course for calls: what is left of it, what clients say, how many occurrences it took, and whether its cluster is at rest
+record Answered : Type 0 where
+  left : List Task
+  said : List Said
+  occurrences : ℕ
+  rests : Bool
 
--- the client says the answer
-served_says : (course_after 60 calling (serve calling 1)).said ≡ says.Reply 1 1 (Written 1) ∷ []
-unfolding hash_of spelled_of spelled_all spelled front_bytes body_length head_bytes held_bytes refused_bytes carried_bytes joined_bytes mark_of number_bytes key_bytes value_bytes range_bytes outcome_bytes end_bytes ends_bytes segments_bytes
-served_says = refl
+abbrev answered_by : Course → Answered
+answered_by course =
+    record { left = course.tasks; said = course.said; occurrences = length course.occurred; rests = is_at_rest course.cluster }
 
--- it took nineteen occurrences
-served_occurred : length (course_after 60 calling (serve calling 1)).occurred ≡ 19
+-- serve brings a put to its end, after nineteen occurrences: the client says the answer, and the cluster is at rest
+served :
+    answered_by (course_after 60 calling (serve calling 1))
+    ≡ record { left = []; said = says.Reply 1 1 (Written 1) ∷ []; occurrences = 19; rests = true }
 unfolding hash_of spelled_of spelled_all spelled front_bytes body_length head_bytes held_bytes refused_bytes carried_bytes joined_bytes mark_of number_bytes key_bytes value_bytes range_bytes outcome_bytes end_bytes ends_bytes segments_bytes
-served_occurred = refl
+served = refl
 
--- settle comes to its end
-settled_ends : (course_after 220 calling (settle calling)).tasks ≡ []
+-- and so does settle, after ninety-three
+settled :
+    answered_by (course_after 220 calling (settle calling))
+    ≡ record { left = []; said = says.Reply 1 1 (Written 1) ∷ []; occurrences = 93; rests = true }
 unfolding hash_of spelled_of spelled_all spelled front_bytes body_length head_bytes held_bytes refused_bytes carried_bytes joined_bytes mark_of number_bytes key_bytes value_bytes range_bytes outcome_bytes end_bytes ends_bytes segments_bytes
-settled_ends = refl
-
--- the client says the answer
-settled_says : (course_after 220 calling (settle calling)).said ≡ says.Reply 1 1 (Written 1) ∷ []
-unfolding hash_of spelled_of spelled_all spelled front_bytes body_length head_bytes held_bytes refused_bytes carried_bytes joined_bytes mark_of number_bytes key_bytes value_bytes range_bytes outcome_bytes end_bytes ends_bytes segments_bytes
-settled_says = refl
-
--- the cluster is at rest
-settled_rests : is_at_rest (course_after 220 calling (settle calling)).cluster ≡ true
-unfolding hash_of spelled_of spelled_all spelled front_bytes body_length head_bytes held_bytes refused_bytes carried_bytes joined_bytes mark_of number_bytes key_bytes value_bytes range_bytes outcome_bytes end_bytes ends_bytes segments_bytes
-settled_rests = refl
-
--- in ninety-three occurrences
-settled_occurred : length (course_after 220 calling (settle calling)).occurred ≡ 93
-unfolding hash_of spelled_of spelled_all spelled front_bytes body_length head_bytes held_bytes refused_bytes carried_bytes joined_bytes mark_of number_bytes key_bytes value_bytes range_bytes outcome_bytes end_bytes ends_bytes segments_bytes
-settled_occurred = refl
+settled = refl
 
 -- advance brings the migration to its grant, in seventeen occurrences in each lane: no task is left, the rows move, and the targets answer
 -- calls
