@@ -1,7 +1,7 @@
 //! Runs of a cluster: in every run each lane stays sound, the journals of all lanes make one history, and who has something left to do
 //! sends a message on its turn.
 //!
-//! It stands on the laws of lanes (`rk_inv_events`, `rk_inv_lanes`). It has no code: its headline laws are the contracts of functions
+//! It stands on the laws of lanes (`rk_inv_lanes`). It has no code: its headline laws are the contracts of functions
 //! that do nothing.
 #![tactic(auto)]
 

@@ -48,7 +48,8 @@ fn write_usage<K: Sink>(sink: &mut K) -> Status
 
 /// Runs the program with these words, which follow its name. `play` plays the script that the source has, and writes its text to the sink.
 /// `drive` and its plan run clients, a migration and, if asked for, a crash on threads, and write the outcome; the source is not read. With
-/// any other words nothing is read either, and the forms of the program are written.
+/// any other words nothing is read either, and the forms of the program are written. Answered are the status and, of a refused script, the
+/// code that was written.
 ///
 /// The replicas hold nothing at the start; backup b of lane l has the one at place 8 * (b - 1) + l, counted from 0. The clause `play` says
 /// of the script played, and `drives` and `driven` of the plan driven, what each status means for the sink and the replicas. A fault of
