@@ -1,3 +1,4 @@
+pub mod Headlines
 pub mod Courses
 pub mod Events
 pub mod Histories

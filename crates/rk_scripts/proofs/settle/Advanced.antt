@@ -3,13 +3,12 @@ use Rattle.std.proofs.Common.{◌≡◌, ◌<◌, ◌≤◌, ◌+◌, ◌==◌, 
 use Rattle.std.proofs.Common.{Option, None, refl, sym, ap, subst, ◌∙◌, inl, arith, eqb-true, true≢false}
 use Rattle.rk_scripts.proofs.Words.{list_any, range_with_len, false≢true, none-some, LANES, row_of, Row, Cluster}
 use Rattle.rk_scripts.proofs.Words.{lane_at, World, has_crashed, code_where, first_code, all_lanes, is_tablet, Code, Crashed, Unknown}
-use Rattle.rk_scripts.proofs.Words.{advance, advance_code, Course, course_of, is_short_of, advance_are, EndsUnlessRefused}
+use Rattle.rk_scripts.proofs.Words.{advance, advance_code, Course, course_of, is_short_of}
 use Rattle.rk_cluster.specs.declared.code.Code.TheVariants.{NotMigrating}
 use Rattle.rk_settle.specs.Codes.{has_dead_migration, is_dead_migration, short_lanes}
 use Rattle.rk_scripts.proofs.play.Reaching.{reached_eight}
 use Rattle.rk_scripts.proofs.settle.Advancing.{advancing}
 use Rattle.rk_scripts.proofs.settle.ExchangeTasks.{Reach, advances}
-use Rattle.rk_scripts.proofs.settle.Finishing.{ends_unless}
 use Rattle.rk_scripts.proofs.settle.Going.{Comes, Goes, comes_here, goes_done, goes_on}
 use Rattle.rk_scripts.proofs.settle.Migrating.{First, migrates, migrates_by}
 use Rattle.rk_scripts.proofs.settle.Noticing.{is_in, in_range}
@@ -50,7 +49,7 @@ any_none test (first ∷ list) n none there =
 
 module _ (cluster : Cluster) (tablet : ℕ) (reach : Reach) (eight : length cluster.lanes ≡ LANES) (allowed : advance_code cluster tablet reach ≡ None) where
   -- in each lane where the migration is short of the reach, its parties live
-  first_at : (lane : ℕ) → lane < LANES → is_short_of (lane_at cluster lane) tablet reach ≡ true → First tablet (lane_at cluster lane)
+  pub first_at : (lane : ℕ) → lane < LANES → is_short_of (lane_at cluster lane) tablet reach ≡ true → First tablet (lane_at cluster lane)
   first_at lane inside short =
       let lanes : List ℕ = short_lanes cluster tablet reach in
       let alive : has_dead_migration cluster lanes tablet ≡ false =
@@ -80,13 +79,7 @@ module _ (s : Setting) (tablet : ℕ) (reach : Reach) (first : (lane : ℕ) → 
       (λ later comes_later now. lanes_advance count (from + 1) (omega (arith, all)) before later comes_later now.left
       (λ q above. now.beside q (λ is. omega (arith, above, is)) ∙ same q (omega (arith, above))))
 
-  advanced : IsSane s (course_of s.start (advance s.start tablet reach)) → Goes s s.start (course_of s.start (advance s.start tablet reach)) Never
+  pub advanced : IsSane s (course_of s.start (advance s.start tablet reach)) → Goes s s.start (course_of s.start (advance s.start tablet reach)) Never
   advanced sane =
       lanes_advance LANES 0 refl s.start (course_of s.start (advance s.start tablet reach)) (comes_here s (course_of s.start (advance s.start tablet reach)) sane)
       (ap (λ (count : ℕ). map (λ lane. advances lane tablet reach) (range_with_len 0 count)) (reached_eight s.masters s.backups s.start s.reached)) (λ q above. refl)
-
-pub advance_ends : (tablet : ℕ) (reach : Reach) → EndsUnlessRefused (λ cluster. advance_code cluster tablet reach) (λ cluster. advance cluster tablet reach)
-advance_ends tablet reach =
-    ends_unless (λ cluster. advance_code cluster tablet reach) (λ cluster. advance cluster tablet reach)
-    (λ masters cluster names. advance_are masters cluster names tablet reach)
-    (λ s allowed sane. advanced s tablet reach (first_at s.start tablet reach (reached_eight s.masters s.backups s.start s.reached) allowed) sane)

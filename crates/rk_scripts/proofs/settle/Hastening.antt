@@ -1,12 +1,11 @@
 -- `priority` ends: in each lane at most one exchange is made.
 use Rattle.std.proofs.Common.{◌≡◌, ◌<◌, ℕ, Bool, true, false, cond, List, [], ◌∷◌, ◌++◌, Option, None, Some, refl}
 use Rattle.rk_scripts.proofs.Words.{row_of, Phase, Moving, Row, LANES, Node, Cluster, lane_at, World, tablet_in, Course, hasten_phase}
-use Rattle.rk_scripts.proofs.Words.{hasten_row, priority, wants_first, turn_exchange, priority_are, AlwaysEnds}
+use Rattle.rk_scripts.proofs.Words.{hasten_row, wants_first, turn_exchange}
 use Rattle.rk_settle.specs.Priority.{hasten_tasks}
 use Rattle.rk_scripts.proofs.settle.ExchangeTasks.{Topic, hastens}
 use Rattle.rk_scripts.proofs.settle.Exchanged.{turn_exchanging}
 use Rattle.rk_scripts.proofs.settle.Exchanging.{HasLeft}
-use Rattle.rk_scripts.proofs.settle.Finishing.{always_ends, lanes_end}
 use Rattle.rk_scripts.proofs.settle.Going.{Comes, Goes, IsAt, goes_here, goes_on, still_move}
 use Rattle.rk_scripts.proofs.settle.Setting.{Setting}
 use Rattle.rk_scripts.proofs.settle.Tasks.{Task}
@@ -29,7 +28,7 @@ module _ (s : Setting) (lane : ℕ) (inside : lane < LANES) (rest : List Task) w
   hastened_row w tablet (Some row) before course comes are = hastened_phase w tablet row.phase before course comes are
 
   -- a target has asked for what it wants first
-  hastening_ends : (tablet : ℕ) (before : Cluster) (course : Course) → Comes s before course → course.tasks ≡ hastens lane tablet ∷ rest → Goes s before course (HasLeft rest)
+  pub hastening_ends : (tablet : ℕ) (before : Cluster) (course : Course) → Comes s before course → course.tasks ≡ hastens lane tablet ∷ rest → Goes s before course (HasLeft rest)
   hastening_ends tablet before course comes are =
       let w : World = lane_at course.cluster lane in
       let left : List Task = hasten_tasks w lane tablet ++ rest in
@@ -37,10 +36,3 @@ module _ (s : Setting) (lane : ℕ) (inside : lane < LANES) (rest : List Task) w
       (still_move s before course (hastens lane tablet) rest left (IsAt course.cluster left) comes are
       (record { cluster_is = refl; tasks_are = refl }) (λ next at. at))
       (λ later comes_later at. hastened_row w tablet (row_of w.coordinator.rows tablet) before later comes_later at.tasks_are)
-
-pub priority_ends : (tablet : ℕ) → AlwaysEnds (λ cluster. priority cluster tablet)
-priority_ends tablet = always_ends (λ cluster. priority cluster tablet)
-    (λ masters cluster names. priority_are masters cluster names tablet)
-    (λ s sane. lanes_end s (λ lane. hastens lane tablet)
-    (λ lane inside rest before course comes are. hastening_ends s lane inside rest tablet before course comes are) _ sane refl
-    refl)

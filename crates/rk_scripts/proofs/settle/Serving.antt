@@ -3,13 +3,12 @@ use Rattle.std.proofs.Common.{◌≡◌, ◌<◌, ◌+◌, ℕ, zero, suc, Bool,
 use Rattle.std.proofs.Common.{subst, arith}
 use Rattle.rk_scripts.proofs.Words.{mod-lt, false≢true, hash_of, Call, LANES, known_owner, looks_up, Session, call_lane, Cluster, lane_at}
 use Rattle.rk_scripts.proofs.Words.{session_at, is_staged, World, has_crashed, lives, master_at, log_round, Course, ask_exchange}
-use Rattle.rk_scripts.proofs.Words.{hear_tasks, is_staged_by, request_by, serve, serve_by, try_tasks, was_moved, serve_are, AlwaysEnds}
+use Rattle.rk_scripts.proofs.Words.{hear_tasks, is_staged_by, request_by, serve_by, try_tasks, was_moved}
 use Rattle.rk_scripts.proofs.Words.{Node, and_parts}
 use Rattle.rk_scripts.proofs.settle.ExchangeTasks.{commits, hears, requests, tries, tries_again}
 use Rattle.rk_scripts.proofs.settle.Exchanged.{HasSent, Sends, ask_exchanging, round_sending}
 use Rattle.rk_scripts.proofs.settle.Exchanging.{HasLeft}
-use Rattle.rk_scripts.proofs.settle.Finishing.{always_ends, left_none}
-use Rattle.rk_scripts.proofs.settle.Going.{Comes, Goes, IsAt, comes_here, goes_here, goes_on, still_move}
+use Rattle.rk_scripts.proofs.settle.Going.{Comes, Goes, IsAt, goes_here, goes_on, still_move}
 use Rattle.rk_scripts.proofs.settle.Numbers.{sends_left}
 use Rattle.rk_scripts.proofs.settle.Setting.{IsSane, Setting}
 use Rattle.rk_scripts.proofs.settle.Staging.{call_staged, good_at, master_sends}
@@ -127,7 +126,7 @@ module _ (s : Setting) (lane : ℕ) (inside : lane < LANES) (client : ℕ) where
 
 module _ (s : Setting) (client : ℕ) where
   -- the outstanding call of a client, if there is one
-  served : (out : Option Call) (before : Cluster) (course : Course) → Comes s before course → course.tasks ≡ serve_by client out → Goes s before course (HasLeft [])
+  pub served : (out : Option Call) (before : Cluster) (course : Course) → Comes s before course → course.tasks ≡ serve_by client out → Goes s before course (HasLeft [])
   served None before course comes are = goes_here s before course (HasLeft []) comes are
   served (Some call) before course comes are =
       let inside : call_lane call < LANES = mod-lt (hash_of call.key) (omega arith) in
@@ -138,8 +137,3 @@ module _ (s : Setting) (client : ℕ) where
       (record { cluster_is = refl; tasks_are = refl }) (λ next at. at))
       (λ later comes_later at.
       trying s (call_lane call) inside client [] 1 (hearing_first s (call_lane call) inside client []) now before later comes_later at.tasks_are)
-
-pub serve_ends : (client : ℕ) → AlwaysEnds (λ cluster. serve cluster client)
-serve_ends client =
-    always_ends (λ cluster. serve cluster client) (λ masters cluster names. serve_are masters cluster names client)
-    (λ s sane. left_none s s.start _ (served s client (session_at s.start client).outstanding s.start _ (comes_here s _ sane) refl))

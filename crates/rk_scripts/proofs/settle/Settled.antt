@@ -1,6 +1,6 @@
 -- `settle` ends.
-use Rattle.std.proofs.Common.{arith, ◌≡◌, ◌≤◌, ℕ, zero, suc, List, [], ◌∷◌, refl, ⊎_elim}
-use Rattle.rk_scripts.proofs.Words.{LANES, MOST_BACKUPS, Cluster, Occurrence, cluster_run, new_cluster, IsRun, MOST_MASTERS, Fate, Kept}
+use Rattle.std.proofs.Common.{arith, ◌≡◌, ℕ, zero, suc, List, [], ◌∷◌, refl, ⊎_elim}
+use Rattle.rk_scripts.proofs.Words.{LANES, Cluster, Fate, Kept}
 use Rattle.rk_scripts.proofs.Words.{Course, moved, moved_all, is_at_rest, settled_rests, IsWell, moved_well, well_other, settle_are}
 use Rattle.rk_scripts.proofs.Words.{AreAdded, Adversary, Ends, Rests, after_moves, settling}
 use Rattle.rk_scripts.specs.settle.Moves.{faultless}
@@ -43,13 +43,6 @@ module _ (adversary : Adversary) (masters backups : ℕ) (cluster : Cluster) (re
   pub reached_ends : Ends adversary (settling cluster)
   reached_ends = grind (arith, goes, after_moves, settling, fates_lead, is_at_rest, settled_rests, fates_of)
 
-pub settle_ends : (masters backups : ℕ) (before : List Occurrence) (adversary : Adversary) → masters ≤ MOST_MASTERS → 1 ≤ backups → backups ≤ MOST_BACKUPS
-    → IsRun (new_cluster masters backups) before → AreAdded (cluster_run (new_cluster masters backups) before)
-    → Ends adversary (settling (cluster_run (new_cluster masters backups) before))
-settle_ends masters backups before adversary few backed few_backups run added =
-    reached_ends adversary masters backups (cluster_run (new_cluster masters backups) before)
-    (record { few_masters = few; backed = backed; few_backups = few_backups; before = before; run = run; is = refl }) added
-
 -- ---- where no replica fails
 
 -- no replica has failed after moves at which none fails
@@ -67,10 +60,3 @@ reached_rests masters backups cluster reached added =
       moves = ends.moves;
       over = grind (arith, well_other, ends.over);
     }
-
-pub settle_rests : (masters backups : ℕ) (before : List Occurrence) → masters ≤ MOST_MASTERS → 1 ≤ backups → backups ≤ MOST_BACKUPS
-    → IsRun (new_cluster masters backups) before → AreAdded (cluster_run (new_cluster masters backups) before)
-    → Rests (settling (cluster_run (new_cluster masters backups) before))
-settle_rests masters backups before few backed few_backups run added =
-    reached_rests masters backups (cluster_run (new_cluster masters backups) before)
-    (record { few_masters = few; backed = backed; few_backups = few_backups; before = before; run = run; is = refl }) added
