@@ -1,3 +1,4 @@
+pub mod Headlines
 pub mod masters
 pub mod lanes
 pub mod room

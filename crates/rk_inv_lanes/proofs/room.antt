@@ -6,5 +6,4 @@ pub mod Copied
 pub mod SealedFew
 pub mod Fitting
 pub mod FittingLanes
-pub mod Start
 pub mod Events

@@ -1,20 +1,17 @@
-//! Corollaries for one lane: nothing outgrows its limit, what comes late changes nothing, the stored logs of a quiet lane give the map,
-//! a wire from which messages are delivered is empty in the end, and what is held is applied.
+//! Corollaries for one lane: nothing outgrows its limit, what comes late changes nothing, the stored logs of a quiet lane give the map, a
+//! wire from which messages are delivered is empty in the end, and what is held is applied.
 //!
-//! It stands on `rk_inv_events` and the crates below it. It has no code: its headline laws are the contracts of functions that do
-//! nothing.
+//! It stands on `rk_inv_events` and the crates below it. It has no code: the headline laws stand in `proofs/Headlines.antt`. Only those
+//! of room and of what backups store need a sound lane.
+//!
+//! In `proofs/room`: masters have records of what is logged in their lane alone (`RecordLanes`), and a target replays nothing else
+//! (`Pulled`), each item once at most; so a replay brings no more bytes than all logs have (`Replays`), and neither do the copies of a
+//! rebuild (`Copied`). Each entry fits a segment (`FittingLanes`). So a lane has room after each event (`Events`).
+//!
+//! In `proofs/stands`, `Standing` says that a log of which all is applied is stored whole and read back, that what counts of it is then
+//! the row's truth, and goes through the rows and the backups; `Telling` says which backups tell what they store.
+//!
+//! In `proofs/applied`, `Logs` is about a log that grows and what backups tell of it, and finds the backup that lacks bytes where not all
+//! is held; `Commits` is about what a master makes of each message and on its turn, `Lanes` about lanes, and `Sends` about what the
+//! backup that lacks bytes is sent.
 #![tactic(auto)]
-
-pub use laws::applied::{
-    clients_keep_masters_caught_up, events_keep_masters_caught_up, new_lanes_are_caught_up,
-    staged_entries_are_sent, what_is_held_is_applied,
-};
-pub use laws::late::{
-    each_refusal_is_justified, late_orders_change_nothing, late_reports_change_nothing,
-    refusals_are_justified,
-};
-pub use laws::room::{clients_keep_lanes_kept, events_leave_room, new_lanes_are_kept};
-pub use laws::stands::{backups_go_on_telling, quiet_logs_give_the_map};
-pub use laws::wires::wires_empty;
-
-mod laws;

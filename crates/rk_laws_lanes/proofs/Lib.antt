@@ -1,3 +1,4 @@
+pub mod Headlines
 pub mod Answers
 pub mod Asks
 pub mod Clients

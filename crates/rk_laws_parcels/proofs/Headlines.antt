@@ -37,7 +37,8 @@ pub gone : (w : World) (number : ℕ) (called : Called) (now : World) → passed
     → get now.wire.messages number ≡ None
 gone w number called now taken makes =
     let made = replays w number called now taken makes in
-    subst (λ (it : World). get it.wire.messages number ≡ None) (sym made.is) (forgets (after w (Happens (Event.Deliver number) called)) number)
+    subst (λ (it : World). get it.wire.messages number ≡ None) (sym made.is)
+    (forgets (after w (Happens (Event.Deliver number) called)) number)
 
 pub twice : (w : World) (number : ℕ) (called : Called) (now : World) (again : Called) → replayed w number called ≡ Ok now
     → replayed now number again ≡ Ok now

@@ -1,3 +1,4 @@
+pub mod Headlines
 pub mod history
 pub mod duties
 pub mod Below

@@ -115,7 +115,8 @@ pub advance_ends : (tablet : ℕ) (reach : Reach)
 advance_ends tablet reach =
     ends_unless (λ cluster. advance_code cluster tablet reach) (λ cluster. advance cluster tablet reach)
     (λ masters cluster names. advance_are masters cluster names tablet reach)
-    (λ s allowed sane. advanced s tablet reach (first_at s.start tablet reach (reached_eight s.masters s.backups s.start s.reached) allowed) sane)
+    (λ s allowed sane. advanced s tablet reach
+    (first_at s.start tablet reach (reached_eight s.masters s.backups s.start s.reached) allowed) sane)
 
 -- `settle` ends where a script has ended, or so many of its first commands alone (`part`): whatever the script says, however its run ended,
 -- whichever replicas failed in it (`fates`), and whichever an adversary lets fail from there on (`scripts_settle`). There each client that

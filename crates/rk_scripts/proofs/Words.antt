@@ -107,8 +107,8 @@ pub use Rattle.rk_play.specs.Played.{Played, Setting, behind, cluster_by, contin
 pub use Rattle.rk_play.specs.Played.{opened_by, other_fates, part_of, played_from, played_in, played_of, played_part, refused_at, set_once}
 pub use Rattle.rk_play.specs.Played.{stopped_at, unset}
 pub use Rattle.rk_play.specs.Shows.{dump_code, dump_text, where_code, where_text}
-pub use Rattle.rk_inv_lanes.proofs.applied.Sends.{wire_counts}
-pub use Rattle.rk_inv_lanes.proofs.wires.Emptied.{masters_in_order, taken_off_fewer}
+pub use Rattle.rk_inv_lanes.proofs.Headlines.{wire_counts, masters_in_order}
+pub use Rattle.rk_inv_lanes.proofs.wires.Emptied.{taken_off_fewer}
 pub use Rattle.rk_inv_lanes.specs.applied.CaughtUp.{AllCaughtUp}
 pub use Rattle.rk_inv_lanes.specs.wires.Emptied.{Arrival, Delivers, Loses, arrived, deliveries_left, forgotten, taken_off}
 pub use Rattle.rk_runs.proofs.duties.Adding.{added_after}

@@ -1,9 +1,9 @@
 -- A master with staged entries that is caught up sends something on its turn.
 use Rattle.std.proofs.Common.{◌≡◌, ◌≢◌, true, ◌+◌, ◌-◌, ◌<◌, ◌≤◌, ℕ, List, [], ◌∷◌, length, get_or, Option, None, Some, refl, ap}
 use Rattle.std.proofs.Common.{⊎_elim, arith, length-append, fold, is_some, length-drop}
-use Rattle.rk_inv_base.proofs.Words.{cases_lt, length-map, range_with_len, Entry, committed, pending, PlacedBytes, Traffic, with_message}
-use Rattle.rk_inv_base.proofs.Words.{Message, Called, IsWellFormed, Master, staged, append_of, appends, duties, master_turn, filled}
-use Rattle.rk_inv_base.proofs.Words.{MOST_BYTES, happened, ledger_after, World, bytes_of_logs, master_at, Node, Event}
+use Rattle.rk_inv_base.proofs.Words.{cases_lt, range_with_len, Entry, committed, pending, PlacedBytes, Traffic, with_message}
+use Rattle.rk_inv_base.proofs.Words.{Message, IsWellFormed, Master, staged, append_of, appends, duties, master_turn}
+use Rattle.rk_inv_base.proofs.Words.{MOST_BYTES, World, bytes_of_logs, master_at}
 use Rattle.std.proofs.lemmas.List.Folds.{length-flat_map-take}
 use Rattle.std.proofs.lemmas.List.FromFn.{get_or-range_with_len, length-range_with_len}
 use Rattle.rk_inv_lanes.specs.applied.CaughtUp.{AllCaughtUp}
@@ -46,23 +46,13 @@ some_staged master some = ⊎_elim (λ (less : master.applied < length master.lo
 -- ---- a lane
 
 -- a master of a lane sends one message at least
-sends_one : {w : World} (master : ℕ) → IsWellFormed w → bytes_of_logs w < MOST_BYTES → AllCaughtUp w → staged (master_at w master) ≢ []
+pub sends_one : {w : World} (master : ℕ) → IsWellFormed w → bytes_of_logs w < MOST_BYTES → AllCaughtUp w → staged (master_at w master) ≢ []
     → 1 ≤ length (master_turn (master_at w master)).sends
 sends_one {w} master formed room caught =
     grind (arith, of_master, staged, master_turn, few_of, committed, some_staged, appends_some, lacks, length-append, appends, duties)
 
-pub sends_some : (w : World) (master : ℕ) → IsWellFormed w → bytes_of_logs w < MOST_BYTES → AllCaughtUp w → staged (master_at w master) ≢ []
-    → (master_turn (master_at w master)).sends ≢ []
-sends_some w master formed room caught some none =
-    omega (arith, sends_one master formed room caught some, ap (λ (list : List Message). length list) none)
-
 -- ---- the wire
 
-sent_counted : (messages : List Message) (wire : Traffic) → (fold (λ wire message. with_message message wire) wire messages).sent ≡ wire.sent + length messages
+pub sent_counted : (messages : List Message) (wire : Traffic) → (fold (λ wire message. with_message message wire) wire messages).sent ≡ wire.sent + length messages
 sent_counted [] wire = omega arith
 sent_counted (message ∷ messages) wire = omega (arith, sent_counted messages (with_message message wire))
-
-pub wire_counts : (w : World) (master : ℕ) (called : Called) → IsWellFormed w → bytes_of_logs w < MOST_BYTES → AllCaughtUp w → staged (master_at w master) ≢ []
-    → w.wire.sent < (happened w (Event.Turn (Node.Master master)) called).world.wire.sent
-wire_counts w master called formed room caught some =
-    grind (arith, master_turn, master_at, filled, ledger_after, sends_one, sent_counted, length-map)

@@ -6,10 +6,10 @@ use Rattle.rk_inv_base.proofs.Words.{with_marks, with_rebuilt, Master, master_st
 use Rattle.rk_inv_base.proofs.Words.{seen_in, to_master, with_sends, worked_at, Worked, changed, World, has_crashed, master_at, tablet_in}
 use Rattle.rk_inv_base.proofs.Words.{with_coordinator, with_ledger, tenure_in, Role, Event}
 use Rattle.rk_inv_base.proofs.views.Masters.{same_of_each}
-use Rattle.rk_inv_lanes.specs.late.Late.{IsLateReport, IsOlder, IsPassedOver, is_told_again, is_waited_for, says_again}
+use Rattle.rk_inv_lanes.specs.late.Late.{IsLateReport, is_told_again, is_waited_for}
 use Rattle.rk_inv_lanes.specs.late.Sent.{IsToldToOwn, order_to, report_of}
 use Rattle.rk_inv_lanes.specs.late.Unchanged.{IsUnchanged, IsUntouched}
-use Rattle.rk_inv_lanes.proofs.late.Orders.{Stays, older_quiet, passed_quiet, passed_stays, says_ready, says_transfer, stays_quiet}
+use Rattle.rk_inv_lanes.proofs.late.Orders.{Stays, says_ready, says_transfer, stays_quiet}
 use Rattle.rk_inv_lanes.proofs.late.Reports.{report_late, report_told_again, report_unawaited}
 use Rattle.rk_inv_wellformed.proofs.maps.Lists.{either_way}
 
@@ -43,7 +43,7 @@ module _ (w : World) (master : ℕ) where
   abbrev own : Master
   own = master_at w master
 
-  unchanged : (seen : ℕ) (worked : Worked) → Stays own worked → IsUnchanged w (worked_at w master seen worked).world
+  pub unchanged : (seen : ℕ) (worked : Worked) → Stays own worked → IsUnchanged w (worked_at w master seen worked).world
   unchanged seen worked stays = record {
     masters = same_of_each (λ q m. m) w master worked.master stays.same;
     coordinator = refl;
@@ -52,41 +52,16 @@ module _ (w : World) (master : ℕ) where
     crashed = refl;
   }
 
-  untouched : (seen : ℕ) (worked : Worked) → worked ≡ changed own → IsUntouched w (worked_at w master seen worked).world
+  pub untouched : (seen : ℕ) (worked : Worked) → worked ≡ changed own → IsUntouched w (worked_at w master seen worked).world
   untouched seen worked quiet = search (unchanged, stays_quiet, worked_at)
 
 -- a message that is lost
-lost : (w : World) → IsUntouched w (losing w).world
+pub lost : (w : World) → IsUntouched w (losing w).world
 lost w = grind (arith, unchanged)
 
 -- ---- messages to a master
 
 module _ (w : World) (number master : ℕ) where
-  pub older_changes_nothing : (message : Message) (called : Called)
-      → get w.wire.messages number ≡ Some message → message.to ≡ Node.Master master → IsOlder (master_at w master) message.body
-      → IsUntouched w (happened w (Event.Deliver number) called).world
-  older_changes_nothing message called there its older =
-      comes_to (IsUntouched w) w number master message called there its
-      (reaches (IsUntouched w) w master message (lost w) (untouched w master (seen_in message.body)
-      (master_step (master_at w master) message) (older_quiet (master_at w master) message.from message.body older)))
-
-  pub passed_changes_nothing : (message : Message) (called : Called)
-      → get w.wire.messages number ≡ Some message → message.to ≡ Node.Master master → IsPassedOver (master_at w master) message.body
-      → IsUnchanged w (happened w (Event.Deliver number) called).world
-  passed_changes_nothing message called there its passed =
-      comes_to (IsUnchanged w) w number master message called there its
-      (reaches (IsUnchanged w) w master message (lost w).unchanged (unchanged w master (seen_in message.body)
-      (master_step (master_at w master) message) (passed_stays (master_at w master) message.from message.body passed)))
-
-  pub passed_is_silent : (message : Message) (called : Called)
-      → get w.wire.messages number ≡ Some message → message.to ≡ Node.Master master → IsPassedOver (master_at w master) message.body
-      → says_again (master_at w master) message.body ≡ false
-      → IsUntouched w (happened w (Event.Deliver number) called).world
-  passed_is_silent message called there its passed untold =
-      comes_to (IsUntouched w) w number master message called there its
-      (reaches (IsUntouched w) w master message (lost w) (untouched w master (seen_in message.body)
-      (master_step (master_at w master) message) (passed_quiet (master_at w master) message.from message.body passed untold)))
-
   -- what a living master makes of an order
   sends_as : (body : Body) (called : Called) (message : Message) → get w.wire.messages number ≡ Some (order_to master body)
       → has_crashed w master ≡ false

@@ -3,7 +3,7 @@ use Rattle.std.proofs.Common.{arith, ◌≡◌, ◌+◌, ℕ, List, [], ◌∷�
 use Rattle.rk_inv_base.proofs.Words.{cases_eq, All-head, All-tail, get_other, get_same, remove_less, get, Placed, Node, Traffic}
 use Rattle.rk_inv_base.proofs.Words.{with_message, Reply, Request, Body, Message, Called, IsWellFormed, MayAnswerMoved, filled, happened}
 use Rattle.rk_inv_base.proofs.Words.{ledger_after, log_bytes_of, seen_in, with_sends, worked_at, Worked, World, master_at, Event, LastCall}
-use Rattle.rk_inv_base.proofs.Words.{IsRequest, view, IsSound, Answer, told_master, Master, Call, call_of}
+use Rattle.rk_inv_base.proofs.Words.{IsRequest, Answer, told_master, Master, Call, call_of}
 use Rattle.rk_inv_lanes.specs.late.Refused.{HasPlainRequests, IsNoRefusal, IsOutcome, IsPutOff, WasRefused}
 use Rattle.rk_inv_lanes.specs.late.Sent.{IsMade}
 use Rattle.rk_inv_lanes.proofs.lanes.Events.{Covers, event_covered}
@@ -106,10 +106,6 @@ module _ (w : World) (event : Event) (new : ℕ) (message : Message) (reply : Re
       (λ was. told_not_yet w was.number new was.master was.client was.request message called was.made reply replies key formed is)
 
 -- the requests that the clients of a sound lane may send again are Requests
-request_plain : (asked : ℕ → Option LastCall) (journal : List Placed) (client : ℕ) (from : Node) (body : Body)
+pub request_plain : (asked : ℕ → Option LastCall) (journal : List Placed) (client : ℕ) (from : Node) (body : Body)
     → IsRequest asked journal client from body → IsNoRefusal body
 request_plain asked journal client from body its = grind arith
-
-pub sound_requests : (w : World) → IsSound w → HasPlainRequests w
-sound_requests w sound client request there =
-    request_plain (view w).asked (view w).journal client request.from request.body (sound.asked.again client request there)

@@ -3,7 +3,7 @@ use Rattle.std.proofs.Common.{All, Bool, Contains, IfSome, List, None, Option, S
 use Rattle.std.proofs.Common.{flat_map, get_or, is_some, le-ltb, leb-true, length, length-append, length-drop, map, nat_lt, not, refl}
 use Rattle.std.proofs.Common.{slice_get, subst, suc, sym, take, take_all, true, unwrap_or, zero, ℕ, ◌++◌, ◌+◌, ◌-◌, ◌<◌, ◌∙◌, ◌∷◌, ◌≡◌, ◌≤◌}
 use Rattle.rk_inv_base.proofs.Words.{All-contains, All-drop, All-head, All-map, All-tail, EachIn, Entry, EntryEnd, FIRST_SIDE_SEGMENT}
-use Rattle.rk_inv_base.proofs.Words.{Handover, HasRoom, Held, IsBackup, IsLawfulEntry, IsLawfulHeld, IsLog, IsMaster, IsSound, IsTruth}
+use Rattle.rk_inv_base.proofs.Words.{Handover, Held, IsBackup, IsLawfulEntry, IsLawfulHeld, IsLog, IsMaster, IsSound, IsTruth}
 use Rattle.rk_inv_base.proofs.Words.{IsWellFormed, Known, LAST_MAIN_SEGMENT, Log, Mark, MarkFits, Master, NumberedBytes, Owned, Phase}
 use Rattle.rk_inv_base.proofs.Words.{Range, Row, Segments, Session, World, Written, all_again, applied_entries, as_entries, backup_at}
 use Rattle.rk_inv_base.proofs.Words.{bytes_of, cases_lt, cond-false, counting, cut, cut_filled, ends, entries_of, false≢true, get}
@@ -28,7 +28,7 @@ use Rattle.rk_world.specs.Quiet.{IsOwnedLive, IsQuiet}
 use Rattle.rk_world.specs.Stands.{Stands, StandsIn, stored_material}
 use Rattle.rk_world.specs.World.{live_masters}
 use Rattle.rk_inv_base.proofs.pulls.Joining.{stands_kept}
-use Rattle.rk_inv_events.proofs.events.Crashing.{entries_lawful, items_lawful, segments_left}
+use Rattle.rk_inv_events.proofs.events.Crashing.{entries_lawful, items_lawful}
 use Rattle.rk_inv_events.proofs.events.Coordinating.{of_master}
 use Rattle.rk_inv_events.proofs.events.RowsApart.{has_row}
 use Rattle.rk_inv_lanes.specs.stands.Backups.{HasOwnBackups}
@@ -298,8 +298,3 @@ module _ (w : World) (sessions : List Session) (sound : IsSound w) (formed : IsW
       all_by (λ (row : Row). All (λ (backup : ℕ × Segments). StandsIn w row backup.1) w.backups) w.coordinator.rows
       (λ row has. All_pairs (λ number segments. StandsIn w row segments) w.backups told.order
       (λ number segments found. row_stands number segments found row has))
-
--- so they do with room
-pub quiet_stands_in_room : (w : World) (sessions : List Session) → IsSound w → IsWellFormed w → HasRoom w → HasOwnBackups w → IsQuiet w.coordinator.rows w.crashed (live_masters w) sessions → Stands w
-quiet_stands_in_room w sessions sound formed room told quiet =
-    quiet_stands w sessions sound formed told quiet (λ q. let left = segments_left w formed room q in omega (arith, left))

@@ -1,35 +1,21 @@
 -- The backups of a lane that tell what they store are its own from the start on, whatever happens; and all tell where all told.
-use Rattle.std.proofs.Common.{All, arith, leb-true, nat_cmp, nat_le, subst, suc, sym, zero, ℕ, ◌+◌, ◌∙◌, ◌≡◌, ◌≤◌}
-use Rattle.rk_inv_base.proofs.Words.{All-cons, All-nil, Called, Event, NumberMap, Segments, World, and_parts, each_insert, insert}
-use Rattle.rk_inv_base.proofs.Words.{new_world, no_segments, range_with_len, refusal, stepped_by, world_stepped}
-use Rattle.std.specs.Cmp.{nat_cmp_total}
-use Rattle.std.specs.FinMap.Entries.{is_sorted-put}
-use Rattle.rk_types.specs.NumberMap.{numbers}
+use Rattle.std.proofs.Common.{All, arith, leb-true, nat_le, suc, zero, ℕ, ◌+◌, ◌≤◌}
+use Rattle.rk_inv_base.proofs.Words.{All-cons, All-nil, Called, Event, NumberMap, Segments, World, and_parts, insert}
+use Rattle.rk_inv_base.proofs.Words.{range_with_len, refusal, stepped_by, world_stepped}
 use Rattle.rk_world.specs.Runs.{Accepts, Asks, Happening, Happens, after}
-use Rattle.rk_inv_wellformed.proofs.maps.Lists.{all_before, by_found}
-use Rattle.rk_inv_wellformed.proofs.maps.Maps.{each_from_pairs}
-use Rattle.rk_inv_wellformed.proofs.maps.Numbered.{numbered_order, numbers_are, numbers_kept}
+use Rattle.rk_inv_wellformed.proofs.maps.Lists.{by_found}
 use Rattle.rk_inv_lanes.proofs.lanes.Events.{Covers, MayStore, event_covered}
 use Rattle.rk_inv_lanes.proofs.lanes.Visits.{accept_covered, ask_covered}
-use Rattle.rk_inv_lanes.specs.stands.Backups.{AllBackupsTell, AreBackups, HasOwnBackups, IsNumbered}
+use Rattle.rk_inv_lanes.specs.stands.Backups.{IsNumbered}
 
 -- ---- who tells
 
 -- numbers that rise by one
-range_numbered : (count first size : ℕ) → 1 ≤ first → first + size ≤ 1 + count → All (IsNumbered count) (range_with_len first size)
+pub range_numbered : (count first size : ℕ) → 1 ≤ first → first + size ≤ 1 + count → All (IsNumbered count) (range_with_len first size)
 range_numbered count first zero some few = All-nil (IsNumbered count)
 range_numbered count first (suc size) some few =
     All-cons (IsNumbered count) first (range_with_len (first + 1) size) (record { first = some; last = omega (arith, few) })
     (range_numbered count (first + 1) size (omega arith) (omega (arith, few)))
-
--- where all of so many tell what they store, those that tell are they
-pub own_where_all_tell : (w : World) → AllBackupsTell w → HasOwnBackups w
-own_where_all_tell w are = record {
-  order = numbered_order w.backups w.backup_count are;
-  numbered = each_from_pairs (λ backup segments. IsNumbered w.backup_count backup) w.backups
-      (all_before (IsNumbered w.backup_count) (λ (pair : ℕ × Segments). pair.0) w.backups
-      (subst (All (IsNumbered w.backup_count)) (sym are) (range_numbered w.backup_count 1 w.backup_count (omega arith) (omega arith))));
-}
 
 -- ---- whatever happens
 
@@ -57,21 +43,3 @@ module _ (P : ℕ → NumberMap Segments → Type 0) (stores : GoesOnStored P) (
   goes_on (Accepts number session) = accept_covered Holds w session holds number (λ body. holds)
 
 -- ---- both
-
-pub own_after : (w : World) (happening : Happening) → HasOwnBackups w → HasOwnBackups (after w happening)
-own_after w happening own = goes_on AreBackups
-    (λ count backups backup segments there own. record {
-      order = is_sorted-put nat_cmp nat_cmp_total backup segments backups own.order;
-      numbered = each_insert (λ backup segments. IsNumbered count backup) backups backup segments own.numbered there;
-    })
-    w own happening
-
-pub all_after : (w : World) (happening : Happening) → AllBackupsTell w → AllBackupsTell (after w happening)
-all_after w happening all = goes_on (λ count backups. numbers backups ≡ range_with_len 1 count)
-    (λ count backups backup segments there are.
-    numbers_kept backups count backup segments are (record { first = there.first; last = there.last }) ∙ are)
-    w all happening
-
--- in a lane where nothing has happened all backups tell
-pub all_new : (lane masters backups : ℕ) → AllBackupsTell (new_world lane masters backups)
-all_new lane masters backups = numbers_are (λ number. no_segments) (range_with_len 1 backups)

@@ -1,9 +1,8 @@
 -- A wire from which the oldest message is taken off, again and again, is empty once no delivery is left.
 use Rattle.std.proofs.Common.{◌≡◌, ◌≤◌, ◌<◌, ◌+◌, ℕ, List, [], ◌∷◌, length, Some, None, refl, sum_by, arith, subst}
-use Rattle.rk_inv_base.proofs.Words.{IsInOrder, NumberMap, get, Message, IsWellFormed, world_stepped, stepped_by, World}
+use Rattle.rk_inv_base.proofs.Words.{IsInOrder, NumberMap, get, Message, world_stepped, stepped_by, World}
 use Rattle.rk_message.specs.Wire.{number_at}
 use Rattle.rk_inv_wellformed.proofs.maps.Maps.{get_first}
-use Rattle.rk_inv_wellformed.proofs.maps.Numbered.{numbered_order}
 use Rattle.rk_inv_lanes.specs.wires.Emptied.{Arrival, arrived, deliveries_left, deliveries_of, emptied, emptied_by, forgotten, taken_off}
 use Rattle.rk_inv_lanes.proofs.wires.Sends.{one_delivery}
 use Rattle.rk_inv_lanes.proofs.wires.Steps.{arrival_leaves, forgotten_leaves, waiting}
@@ -32,10 +31,6 @@ pub taken_off_order : (w : World) (number : ℕ) (message : Message) (arrival : 
     → IsInOrder (taken_off w number arrival).masters
 taken_off_order w number message arrival order there =
     forgotten_order (arrived w number arrival) number ((arrival_leaves w number message arrival order there).order order)
-
--- as they do in each lane that is well formed
-pub masters_in_order : (w : World) → IsWellFormed w → IsInOrder w.masters
-masters_in_order w formed = numbered_order w.masters w.coordinator.masters formed.masters_are
 
 -- ---- the oldest message
 
@@ -66,7 +61,7 @@ stays_silent [] w silent = silent
 stays_silent (arrival ∷ arrivals) w silent = grind (arith, (stays_silent arrivals w silent))
 
 -- after as many messages as deliveries were left, nothing is on the wire
-silent_after : (arrivals : List Arrival) (w : World) → IsInOrder w.masters → deliveries_left w ≤ length arrivals
+pub silent_after : (arrivals : List Arrival) (w : World) → IsInOrder w.masters → deliveries_left w ≤ length arrivals
     → number_at 1 (emptied w arrivals).wire ≡ None
 silent_after [] w order few = none_oldest w.wire.messages w.wire.sent (waiting w.masters) few
 silent_after (arrival ∷ arrivals) w order few =
@@ -76,6 +71,3 @@ silent_after (arrival ∷ arrivals) w order few =
     let there = oldest_there w.wire.messages w.wire.sent number is in
     silent_after arrivals (taken_off w number arrival) (taken_off_order w number there.message arrival order there.found)
     (omega (arith, few, taken_off_fewer w number there.message arrival order there.found)))
-
-pub empties : (w : World) (arrivals : List Arrival) → IsInOrder w.masters → deliveries_left w ≤ length arrivals → number_at 1 (emptied w arrivals).wire ≡ None
-empties w arrivals order few = silent_after arrivals w order few

@@ -4,7 +4,7 @@ use Rattle.std.proofs.Common.{max, All}
 use Rattle.rk_inv_base.proofs.Words.{All-contains, All-push, All-weaker, get, Call, Op, Outcome, Placed, Receipt, Reply, Message, accepting}
 use Rattle.rk_inv_base.proofs.Words.{asking, asking_by, fits_with, is_asked, ClientTurn, Session, call_lane, new_session, session_turn}
 use Rattle.rk_inv_base.proofs.Words.{turn_of, asked_by, MayAct, World, LastCall, MayAccept, IsRecordAt, IsAfterSeen, view, IsSound}
-use Rattle.rk_world.specs.Client.{busy, done, receipt_of, session_calling, with_next_call, with_range, without_range}
+use Rattle.rk_world.specs.Client.{done, receipt_of, with_next_call, with_range, without_range}
 use Rattle.rk_world.specs.Refusals.{is_for}
 use Rattle.rk_inv_base.proofs.calls.Accepted.{stands_there}
 use Rattle.rk_runs.proofs.Below.{is_last_there, may_accept}
@@ -23,9 +23,6 @@ module _ (client : ℕ) (session : Session) (orderly : IsOrderly client session)
   -- a session that has no call outstanding asks its next one
   pub next_orderly : (table : ℕ) (key : List ℕ) (op : Op) → session.outstanding ≡ None → IsOrderly client (with_next_call session table key op)
   next_orderly table key op none = grind arith
-
-  pub calling_orderly : (table : ℕ) (key : List ℕ) (op : Op) → IsOrderly client (session_calling session table key op (busy session))
-  calling_orderly table key op = grind (arith, next_orderly)
 
   -- ---- a turn
 

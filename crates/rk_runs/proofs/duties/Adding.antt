@@ -1,8 +1,8 @@
 -- Who has a session stays added in each lane, whatever occurs in a cluster, where nobody gets one who was not added in each lane.
 use Rattle.std.proofs.Common.{arith, ◌≡◌, ℕ, List, Option, Some, None, true, Err, Ok, Result}
-use Rattle.rk_inv_base.proofs.Words.{none-some, each_insert, get, Op, Visited, accept, ask, Session, new_session, Accepts, Asks, Calls}
+use Rattle.rk_inv_base.proofs.Words.{each_insert, get, Op, Visited, accept, ask, Session, new_session, Accepts, Asks, Calls}
 use Rattle.rk_inv_base.proofs.Words.{Cluster, Happens, Joins, Occurrence, called_by_client, cluster_after, cluster_stepped}
-use Rattle.rk_inv_base.proofs.Words.{cluster_visited, joined_by, lane_at, new_cluster, session_at, with_lane, with_session, is_added}
+use Rattle.rk_inv_base.proofs.Words.{cluster_visited, joined_by, lane_at, session_at, with_lane, with_session, is_added}
 use Rattle.rk_inv_base.proofs.Words.{world_stepped, world_visited, Stepped, step, World, StepError}
 use Rattle.rk_inv_wellformed.proofs.lanes.Worlds.{HasClientsOf}
 use Rattle.rk_runs.specs.duties.Added.{ActsAdded, AreAdded, IsAddedInAll, MayGetSession}
@@ -60,7 +60,3 @@ added_after cluster (Asks lane client) acts all = grind (arith, visited_added, a
 added_after cluster (Accepts lane number client) acts all =
     visited_added cluster lane client (accept (lane_at cluster lane) number (session_at cluster client))
     (answer_on (lane_at cluster lane) number (session_at cluster client)).clients (actor_added cluster client acts all) all
-
--- a new cluster has no sessions
-pub added_new : (masters backups : ℕ) → AreAdded (new_cluster masters backups)
-added_new masters backups client session found = absurd (none-some session found)

@@ -1,18 +1,18 @@
 -- Once one crash is noticed, each master that has crashed was noticed, until the next one crashes.
 use Rattle.std.proofs.Common.{◌≡◌, ◌==◌, ◌≤◌, ◌<◌, ◌+◌, ℕ, zero, suc, Bool, true, false, List, [], ◌∷◌, ◌++◌, fold, refl, sym, ap, subst}
 use Rattle.std.proofs.Common.{◌∙◌, ⊎_elim, append-nil, append_assoc, arith, filter, not, eq-eqb, eqb-true}
-use Rattle.rk_inv_base.proofs.Words.{and_from, cases_eq, false≢true, or_left, or_right, All-contains, Any-from_list_any, list_any-append}
-use Rattle.rk_inv_base.proofs.Words.{list_any, range_with_len, row_of, Row, Called, accept, ask, Session, Coordinator, is_noticed}
+use Rattle.rk_inv_base.proofs.Words.{and_from, cases_eq, or_left, or_right, All-contains, Any-from_list_any, list_any-append}
+use Rattle.rk_inv_base.proofs.Words.{list_any, range_with_len, row_of, Row, Called, Coordinator, is_noticed}
 use Rattle.rk_inv_base.proofs.Words.{told_coordinator, IsWellFormed, migrating, tablet_migrated, coordinator_notice, notice_one}
-use Rattle.rk_inv_base.proofs.Words.{notice_order, IsMaster, refusal, world_stepped, world_visited, rows_split, happened, step, stepped_by}
-use Rattle.rk_inv_base.proofs.Words.{World, crashed_masters, has_crashed, new_world, Event}
+use Rattle.rk_inv_base.proofs.Words.{notice_order, IsMaster, rows_split, happened}
+use Rattle.rk_inv_base.proofs.Words.{World, crashed_masters, has_crashed, Event}
 use Rattle.rk_inv_base.proofs.pulls.Joining.{stands_kept}
 use Rattle.std.proofs.Common.{Contains}
 use Rattle.rk_inv_base.proofs.Words.{list_any_at}
 use Rattle.rk_types.specs.NumberMap.{numbers}
 use Rattle.rk_runs.specs.duties.Owners.{AllNoticed, is_crash}
 use Rattle.rk_runs.proofs.duties.Reports.{told_same}
-use Rattle.rk_runs.proofs.duties.Walks.{EventKeeps, IsKept, Part, accept_keeps, ask_keeps, event_keeps}
+use Rattle.rk_runs.proofs.duties.Walks.{EventKeeps, IsKept, Part}
 
 -- ---- lists of masters
 
@@ -89,31 +89,15 @@ module _ (w : World) where
 -- ---- until the next crash
 
 -- each of these was noticed
-abbrev AreNoticed : Part
+abbrev pub AreNoticed : Part
 AreNoticed crashed coordinator = (master : ℕ) → is_in crashed master ≡ true → is_noticed coordinator master ≡ true
 
 module _ (w : World) (all : AllNoticed w) where
   same : (coordinator : Coordinator) → coordinator.noticed ≡ w.coordinator.noticed → AreNoticed w.crashed coordinator
   same coordinator is master crashed = ap (λ (list : List ℕ). is_in list master) is ∙ all master crashed
 
-  kept : IsKept AreNoticed w
+  pub kept : IsKept AreNoticed w
   kept = grind (arith, same, told_coordinator, told_same, tablet_migrated, row_of, rows_split, noticed_still, migrating)
 
-  comes : (event : Event) → is_crash event ≡ false → EventKeeps AreNoticed w event
+  pub comes : (event : Event) → is_crash event ≡ false → EventKeeps AreNoticed w event
   comes event calm = grind arith
-
-  -- an event
-  pub stepped_noticed : (event : Event) (called : Called) → is_crash event ≡ false → AllNoticed (world_stepped w (step w event called))
-  stepped_noticed event called calm = grind (arith, refusal, world_stepped, stepped_by, event_keeps, kept, comes)
-
-  -- a client's turn
-  pub asked_noticed : (session : Session) → AllNoticed (world_visited w (ask w session))
-  asked_noticed session = ask_keeps AreNoticed w all session
-
-  -- an answer
-  pub accepted_noticed : (number : ℕ) (session : Session) → AllNoticed (world_visited w (accept w number session))
-  accepted_noticed number session = accept_keeps AreNoticed w all number session
-
--- in a lane where nothing happened nobody has crashed
-pub new_noticed : (lane masters backups : ℕ) → AllNoticed (new_world lane masters backups)
-new_noticed lane masters backups master crashed = absurd (false≢true crashed)

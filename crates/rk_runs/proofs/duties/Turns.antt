@@ -1,14 +1,13 @@
 -- The coordinator's turn: it sends a message for each row that is not owned.
-use Rattle.std.proofs.Common.{◌≡◌, ◌≤◌, ◌<◌, ℕ, false, List, [], ◌∷◌, length, refl, ap, ◌∙◌, ⊎_elim, arith, All, Contains, Err, ◌≢◌}
+use Rattle.std.proofs.Common.{◌≡◌, ◌≤◌, ◌<◌, ℕ, false, List, [], ◌∷◌, length, refl, ap, ◌∙◌, ⊎_elim, arith, All, Contains, ◌≢◌}
 use Rattle.std.proofs.Common.{flat_map, length-append}
 use Rattle.rk_inv_base.proofs.Words.{Event, Node, false≢true, All-contains, Phase, Owned, Row, Message, Called, Coordinator}
-use Rattle.rk_inv_base.proofs.Words.{coordinator_turn, row_duty, worn, happened, step, stepped_by, World, has_crashed, StepError}
+use Rattle.rk_inv_base.proofs.Words.{coordinator_turn, row_duty, happened, World, has_crashed}
 use Rattle.rk_world.specs.Quiet.{IsOwnedLive}
 use Rattle.rk_inv_wellformed.proofs.room.Rises.{sent_all}
 use Rattle.rk_inv_base.proofs.rows.Apart.{contains_cases}
 use Rattle.rk_inv_base.proofs.views.Lists.{all_by}
 use Rattle.rk_runs.specs.duties.Owners.{AllNoticed, IsNotOwnedBy, NoDeadOwner, is_owned}
-use Rattle.rk_runs.specs.duties.Worn.{IsWorn}
 
 -- ---- rows that are not owned
 
@@ -28,17 +27,12 @@ duties_send coordinator (first ∷ rest) row stands unowned =
     (contains_cases first rest row stands)
 
 -- so the coordinator has something to send on its turn
-turn_sends : (coordinator : Coordinator) (row : Row) → Contains coordinator.rows row → is_owned row.phase ≡ false → 1 ≤ length (coordinator_turn coordinator)
+pub turn_sends : (coordinator : Coordinator) (row : Row) → Contains coordinator.rows row → is_owned row.phase ≡ false → 1 ≤ length (coordinator_turn coordinator)
 turn_sends coordinator row stands unowned = duties_send coordinator coordinator.rows row stands unowned
 
 pub turn_says : (coordinator : Coordinator) (row : Row) → Contains coordinator.rows row → is_owned row.phase ≡ false → coordinator_turn coordinator ≢ []
 turn_says coordinator row stands unowned none =
     omega (arith, turn_sends coordinator row stands unowned, ap (λ (messages : List Message). length messages) none)
-
-pub unowned_sends : (w : World) (row : Row) (called : Called) → Contains w.coordinator.rows row → is_owned row.phase ≡ false
-    → w.wire.sent < (happened w (Event.Turn Node.Coordinator) called).world.wire.sent
-unowned_sends w row called stands unowned =
-    omega (arith, turn_sends w.coordinator row stands unowned, sent_all w.wire (coordinator_turn w.coordinator))
 
 -- ---- a coordinator that has nothing to send
 
@@ -69,6 +63,3 @@ module _ (w : World) (free : NoDeadOwner w.coordinator) (noticed : AllNoticed w)
           omega (arith, sent_all w.wire (coordinator_turn w.coordinator), ap (λ (list : List Message). length list) some)
 
 -- ---- a turn that is refused
-
-pub turn_refused : (w : World) (called : Called) (error : StepError) → step w (Event.Turn Node.Coordinator) called ≡ Err error → IsWorn w error
-turn_refused w called error = grind (arith, worn, stepped_by)

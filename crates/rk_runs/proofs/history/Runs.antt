@@ -9,12 +9,10 @@ use Rattle.rk_world.specs.Runs.{Accepts, Asks, Happens}
 use Rattle.rk_world.specs.Stands.{Stands}
 use Rattle.rk_inv_lanes.specs.room.Kept.{IsKept}
 use Rattle.rk_inv_lanes.proofs.room.Events.{kept_event, room_left}
-use Rattle.rk_inv_lanes.proofs.room.Start.{kept_accepted, kept_asked, kept_new}
+use Rattle.rk_inv_lanes.proofs.Headlines.{kept_accepted, kept_asked, kept_new, quiet_stands_in_room, all_after, all_new, own_where_all_tell}
 use Rattle.rk_inv_lanes.proofs.Below.{sealed_accepted, sealed_asked, sealed_event, sealed_new, tell_accepted, tell_asked}
 use Rattle.rk_inv_lanes.proofs.Below.{tell_event, tell_new}
 use Rattle.rk_inv_lanes.specs.stands.Backups.{AllBackupsTell}
-use Rattle.rk_inv_lanes.proofs.stands.Standing.{quiet_stands_in_room}
-use Rattle.rk_inv_lanes.proofs.stands.Telling.{all_after, all_new, own_where_all_tell}
 use Rattle.rk_inv_lanes.specs.Below.{IsSteady}
 use Rattle.rk_inv_lanes.proofs.Below.{sound_event}
 use Rattle.rk_runs.specs.history.Runs.{IsKeptIn}

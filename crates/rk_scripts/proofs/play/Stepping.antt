@@ -1,7 +1,8 @@
 -- What is so at each step of a run of a new cluster.
 use Rattle.std.proofs.Common.{arith, ℕ, List, [], ◌∷◌}
 use Rattle.rk_scripts.proofs.Words.{Called, Cluster, Happens, Occurrence, cluster_after, lane_at, IsRun, Event, IsGoodLane, Lasts}
-use Rattle.rk_inv_lanes.proofs.late.Sources.{each_moved, each_not_yet, sound_requests}
+use Rattle.rk_inv_lanes.proofs.Headlines.{sound_requests}
+use Rattle.rk_inv_lanes.proofs.late.Sources.{each_moved, each_not_yet}
 use Rattle.rk_runs.proofs.history.Finishing.{finished_by}
 use Rattle.rk_scripts.specs.play.Steps.{AtEachCluster, AtEachStep, FinishesMoves, HasSoundLanes, OfEvents, RefusesJustly}
 use Rattle.rk_scripts.proofs.play.Reaching.{IsReached, lane_good, reached_after, reached_good}

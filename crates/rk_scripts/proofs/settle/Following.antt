@@ -5,7 +5,7 @@ use Rattle.rk_scripts.proofs.Words.{All-head, All-tail, LANES, accept, ask, Acce
 use Rattle.rk_scripts.proofs.Words.{cluster_after, cluster_run, joined_by, lane_at, session_at, world_stepped, world_visited, step, World}
 use Rattle.rk_scripts.proofs.Words.{Event, IsAllowed, IsNoCrash, lanes_stay, AllNoticed}
 use Rattle.rk_runs.proofs.duties.Going.{answer_on, asked_turn_on, stepped_on}
-use Rattle.rk_runs.proofs.duties.Noticing.{accepted_noticed, asked_noticed, stepped_noticed}
+use Rattle.rk_runs.proofs.Headlines.{accepted_noticed, asked_noticed, stepped_noticed}
 use Rattle.rk_runs.specs.duties.Owners.{is_crash}
 use Rattle.rk_scripts.proofs.settle.Lanes.{ChangesLane, each_still, stepped_changes, visited_changes}
 

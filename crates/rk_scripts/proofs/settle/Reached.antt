@@ -4,7 +4,8 @@ use Rattle.std.proofs.Common.{arith, ◌<◌, ℕ, List, [], ◌∷◌, sym, sub
 use Rattle.rk_scripts.proofs.Words.{in_order_insert, IsInOrder, LANES, Called, Visited, accept, ask, busy, new_session, session_calling}
 use Rattle.rk_scripts.proofs.Words.{Cluster, Occurrence, cluster_after, cluster_run, cluster_visited, lane_at, new_cluster, session_at}
 use Rattle.rk_scripts.proofs.Words.{refusal, world_stepped, step, stepped_by, World, StepError, Event, AllCaughtUp, NoDeadOwner}
-use Rattle.rk_inv_lanes.proofs.applied.Lanes.{caught_accepted, caught_asked, caught_event, caught_new}
+use Rattle.rk_inv_lanes.proofs.Headlines.{caught_accepted, caught_asked, caught_new}
+use Rattle.rk_inv_lanes.proofs.applied.Lanes.{caught_event}
 use Rattle.rk_runs.proofs.duties.Rows.{IsFree}
 use Rattle.rk_runs.proofs.duties.Runs.{IsKeptByLanes, free_kept, lanes_in_run}
 use Rattle.rk_scripts.proofs.play.Reaching.{IsReached}
