@@ -14,7 +14,6 @@ pub mod OtherJournals
 pub mod MoreRecords
 pub mod ReadRecorded
 pub mod Come
-pub mod Saved
 pub mod CallAsked
 pub mod CallAppended
 pub mod WriteStaged

@@ -1,4 +1,2 @@
 pub mod Messages
 pub mod Wire
-pub mod Sent
-pub mod Forgotten

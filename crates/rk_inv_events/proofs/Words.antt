@@ -28,13 +28,12 @@ pub use Rattle.rk_inv_wellformed.proofs.maps.Maps.{All_pairs, above_all, each_fr
 pub use Rattle.rk_inv_base.proofs.calls.Rebuilders.{last_member}
 pub use Rattle.rk_inv_base.proofs.calls.Receives.{IsTargetIn}
 pub use Rattle.rk_inv_base.proofs.calls.Records.{filter_from, filter_stands, found_still, put_all_from, stands_is_found}
-pub use Rattle.rk_inv_base.proofs.logs.ClosingAppended.{sound_closing}
+pub use Rattle.rk_inv_base.proofs.Headlines.{sound_closing, sound_gathered, sound_frozen, sound_sent}
 pub use Rattle.rk_inv_base.proofs.logs.InRange.{AreIn, IsIn, in_by_key, material_in, scan_in, truth_in}
 pub use Rattle.rk_inv_base.proofs.logs.InRest.{behind_at, lineage_last, of_waiting}
 pub use Rattle.rk_inv_base.proofs.logs.Segments.{bytes_in, bytes_main, bytes_side, bytes_zero, first_part_itself, numbered_at, segments_few}
 pub use Rattle.rk_inv_base.proofs.logs.Segments.{with_bytes_few}
-pub use Rattle.rk_inv_base.proofs.rebuilds.SegmentGathered.{needed_stored, sound_gathered}
-pub use Rattle.rk_inv_base.proofs.roles.Frozen.{sound_frozen}
+pub use Rattle.rk_inv_base.proofs.rebuilds.SegmentGathered.{needed_stored}
 pub use Rattle.rk_inv_base.proofs.rows.Apart.{contains_cases, in_one_row, one_precedes}
 pub use Rattle.rk_inv_base.proofs.rows.Serving.{found_stands, present}
 pub use Rattle.rk_inv_base.proofs.rows.Speakers.{speaks_serving}
@@ -43,7 +42,6 @@ pub use Rattle.rk_inv_base.proofs.views.Lists.{all_by, all_in}
 pub use Rattle.rk_inv_base.proofs.views.Masters.{master_same, tablet_apart, tablet_here}
 pub use Rattle.rk_inv_base.proofs.views.Put.{put2_same, put_here, put_same}
 pub use Rattle.rk_inv_base.proofs.views.Views.{view_gathered, view_master, view_pulled}
-pub use Rattle.rk_inv_base.proofs.wire.Sent.{sound_sent}
 pub use Rattle.rk_inv_tablets.proofs.ready.OwnItems.{at_place, flat_from, flat_stands, front_at, sides_into, unmarked_at, unmarked_stands}
 pub use Rattle.rk_inv_tablets.specs.crash.Moves.{AreReadable}
 pub use Rattle.rk_inv_tablets.specs.merge.Moves.{MayMergeFormed}

@@ -1,26 +1,15 @@
 //! Each event keeps a lane sound: it makes only small changes, each under the condition of its law.
 //!
-//! It stands on the laws of small changes (`rk_inv_base`, `rk_inv_tablets`, `rk_inv_rows`, `rk_inv_logs`). It has no code: its headline
-//! laws are the contracts of functions that do nothing. It has a folder for each kind of event or message, and `steps` joins them.
+//! It stands on the laws of small changes (`rk_inv_base`, `rk_inv_tablets`, `rk_inv_rows`, `rk_inv_logs`). It has no code: the headline
+//! laws stand in `proofs/Headlines.antt`. It has a folder for each kind of event or message, and `steps` joins them.
+//!
+//! In `proofs/rebuilt` the part of the row's rest that was read (`rk_inv_logs`) is served, call by call, and then the master's own
+//! entries and its piece stand in the place of all that was read.
+//!
+//! In `proofs/pulls`, `Sources` says what a source may answer to a Pull or a Want: its records are the scan of what counts for its row.
+//! `Targets` says what is there at a target once it is found in its records, and what replayed items and a Got leave, `Passing` what a
+//! batch leaves, and `Batches` what a Pulled does.
+//!
+//! In `proofs/write`, `Ending` has what a master knows of the call and finds of its key, and its version, and `Choosing` how it ends;
+//! `Staging` puts them together.
 #![tactic(auto)]
-
-pub use laws::answer::answers_keep_lanes_sound;
-pub use laws::copies::copies_keep_lanes_sound;
-pub use laws::events::{
-    administration_keeps_lanes_sound, appends_keep_lanes_sound, backups_keep_lanes_sound,
-    clients_keep_lanes_sound, coordinator_turns_keep_lanes_sound, questions_keep_lanes_sound,
-};
-pub use laws::orders::orders_keep_lanes_sound;
-pub use laws::pulls::pulls_keep_lanes_sound;
-pub use laws::rebuilt::rebuilts_keep_lanes_sound;
-pub use laws::reports::reports_keep_lanes_sound;
-pub use laws::request::requests_keep_lanes_sound;
-pub use laws::steps::events_keep_lanes_sound;
-pub use laws::stored::{
-    entries_in_a_row_keep_lanes_sound, stored_keeps_lanes_sound,
-    tablets_that_go_on_keep_lanes_sound,
-};
-pub use laws::turn::master_turns_keep_lanes_sound;
-pub use laws::write::writes_keep_lanes_sound;
-
-mod laws;

@@ -4,7 +4,7 @@ use Rattle.rk_inv_base.proofs.Words.{unwrap_or, All, length, false≢true, All-h
 use Rattle.rk_inv_base.proofs.Words.{Call, Range, live_after, Entry, Row, Request, base_map, item_end, items_of, refusal_end, Ledger}
 use Rattle.rk_inv_base.proofs.Words.{asked_by, with_asked, call_of, World, LastCall, IsAccepted, IsLastCall, RequestFits, WasAsked}
 use Rattle.rk_inv_base.proofs.Words.{IsEntryOf, IsLast, IsLastAsked, IsRest, IsStaged, Waits, call_ends, record_of_last, records_of, put}
-use Rattle.rk_inv_base.proofs.Words.{View, view, truths, rests, AskedOf, IsSound, RestOf, SoundView, TruthOf, Message, get, MayAsk}
+use Rattle.rk_inv_base.proofs.Words.{View, view, truths, rests, AskedOf, RestOf, SoundView, TruthOf, Message, get, MayAsk}
 use Rattle.rk_inv_base.proofs.Words.{call_asked, call_asked_in}
 use Rattle.rk_entry.specs.declared.entry.Entry.TheVariants as entries
 use Rattle.rk_inv_base.proofs.Base.{of_waiting, all_in, put_by, put_is, put_other, row_in}
@@ -135,6 +135,3 @@ asked_put ledger client last q = grind (arith, put_is, asked_by, with_asked, unw
 
 pub view_is : (w : World) (client : ℕ) (last : LastCall) → view (call_asked_in w client last) ≡ call_asked (view w) client last
 view_is w client last i = record (view w) { asked = λ q. asked_put w.ledger client last q i }
-
-pub sound_asked : (w : World) (client : ℕ) (last : LastCall) → IsSound w → MayAsk (view w) client last → IsSound (call_asked_in w client last)
-sound_asked w client last sound may = subst SoundView (sym (view_is w client last)) (view_asked (view w) client last sound may)

@@ -1,6 +1,6 @@
 -- A lane stays sound when a client comes that has asked nothing: nothing is seen of it.
-use Rattle.rk_inv_base.proofs.Words.{arith, ◌≡◌, ℕ, None, sym, subst, unwrap_or, cases_eq, get_same, get_other, Ledger, asked_by}
-use Rattle.rk_inv_base.proofs.Words.{with_client, World, view, IsSound, SoundView, MayCome, client_come}
+use Rattle.rk_inv_base.proofs.Words.{arith, ◌≡◌, ℕ, None, unwrap_or, cases_eq, get_same, get_other, Ledger, asked_by}
+use Rattle.rk_inv_base.proofs.Words.{with_client, World, view, client_come}
 
 -- a client that comes has asked nothing, and had asked nothing
 pub asked_same : (ledger : Ledger) (client : ℕ) → asked_by ledger client ≡ None → (q : ℕ) → asked_by (with_client ledger client) q ≡ asked_by ledger q
@@ -8,6 +8,3 @@ asked_same ledger client new q = grind (arith, unwrap_or, get_same, asked_by, ge
 
 pub view_come : (w : World) (client : ℕ) → asked_by w.ledger client ≡ None → view (client_come w client) ≡ view w
 view_come w client new i = record (view w) { asked = λ q. asked_same w.ledger client new q i }
-
-pub sound_come : (w : World) (client : ℕ) → IsSound w → MayCome (view w) client → IsSound (client_come w client)
-sound_come w client sound may = subst SoundView (sym (view_come w client may.new)) sound

@@ -1,6 +1,6 @@
 -- A view stays sound when a refusal is staged that its master may serve and that goes on lawfully.
-use Rattle.rk_inv_base.proofs.Words.{◌≡◌, ℕ, Bool, refl, sym, subst, ◌∙◌, ◌++◌, All-nil, Call, Held, Row, refusal_of, World, master_at}
-use Rattle.rk_inv_base.proofs.Words.{tablet_in, MayAppend, refused_as, IsNext, View, view, truths, rests, IsSound, SoundView}
+use Rattle.rk_inv_base.proofs.Words.{◌≡◌, ℕ, Bool, refl, ◌∙◌, ◌++◌, All-nil, Call, Held, Row, refusal_of, World, master_at}
+use Rattle.rk_inv_base.proofs.Words.{tablet_in, MayAppend, refused_as, IsNext, View, view, truths, rests, SoundView}
 use Rattle.rk_inv_base.proofs.Words.{refusal_staged, MayRefuse, refused, refusal_staged_in}
 use Rattle.rk_inv_base.proofs.Base.{put_same, put2_same, view_master, next_stays, counter_low, row_in}
 use Rattle.rk_inv_base.proofs.calls.Histories.{last_asked, refusal_goes_on}
@@ -43,8 +43,3 @@ refused_is w master number call found absent =
       gathers = put2_same (view w).gathers master number i;
       merged = put2_same (view w).merged master number i;
     })
-
-pub sound_refused : (w : World) (master : ℕ) (call : Call) (found : ℕ) (absent : Bool) → IsSound w → MayRefuse (view w) master call (refused_as found absent) → IsSound (refusal_staged_in w master call found absent)
-sound_refused w master call found absent sound may =
-    subst SoundView (sym (refused_is w master may.served.row.tablet call found absent))
-    (view_refused (view w) master call found absent sound may)

@@ -1,7 +1,7 @@
 -- A view stays sound when a write is staged that its master may serve and that goes on lawfully.
-use Rattle.rk_inv_base.proofs.Words.{arith, ◌≡◌, ℕ, ◌+◌, List, [], Option, refl, sym, subst, ◌∙◌, ◌++◌, Call, Held, Row, counted_up}
+use Rattle.rk_inv_base.proofs.Words.{arith, ◌≡◌, ℕ, ◌+◌, List, [], Option, refl, ◌∙◌, ◌++◌, Call, Held, Row, counted_up}
 use Rattle.rk_inv_base.proofs.Words.{item_of, with_staged, World, master_at, tablet_in, MayAppend, IsNext, View, view, truths, rests}
-use Rattle.rk_inv_base.proofs.Words.{IsSound, SoundView, write_staged, MayStage, write_staged_in}
+use Rattle.rk_inv_base.proofs.Words.{SoundView, write_staged, MayStage, write_staged_in}
 use Rattle.rk_entry.specs.declared.entry.Entry.TheVariants as entries
 use Rattle.rk_sound.specs.Small.{staged}
 use Rattle.rk_inv_base.proofs.Base.{put_same, put2_same, tablet_here, tablet_apart, view_master, next_push, counter_low, row_in}
@@ -58,7 +58,3 @@ staged_is w master number call value =
       gathers = put2_same (view w).gathers master number i;
       merged = put2_same (view w).merged master number i;
     })
-
-pub sound_staged : (w : World) (master : ℕ) (call : Call) (value : Option (List ℕ)) → IsSound w → (may : MayStage (view w) master call value) → IsSound (write_staged_in w master may.served.row.tablet call value)
-sound_staged w master call value sound may =
-    subst SoundView (sym (staged_is w master may.served.row.tablet call value)) (view_staged (view w) master call value sound may)

@@ -3,7 +3,7 @@ use Rattle.rk_inv_base.proofs.Words.{◌≡◌, ℕ, List, [], ◌∷◌, ◌++�
 use Rattle.rk_inv_base.proofs.Words.{eqb-true, append-nil, and_parts, cond_both, get_other, get_same, get, insert, Node, Segments, bytes_of}
 use Rattle.rk_inv_base.proofs.Words.{known_of, Body, no_segments, World, backup_at, with_stored_by, IsCopy, IsFirstPart, IsKnownBefore}
 use Rattle.rk_inv_base.proofs.Words.{LogSays, stored_of, READ_BACKUP, View, view, IsSound, LogsOf, SoundView, with_part, with_more}
-use Rattle.rk_inv_base.proofs.Words.{MayStore, bytes_stored_in, stored_more}
+use Rattle.rk_inv_base.proofs.Words.{MayStore, stored_more}
 use Rattle.rk_types.specs.declared.node.Node.TheVariants as nodes
 use Rattle.rk_message.specs.declared.message.Body.TheVariants as bodies
 use Rattle.rk_outside.specs.Segments.{bytes_of as stored_bytes}
@@ -89,11 +89,7 @@ module _ (w : World) (master backup segment : ℕ) (bytes : List ℕ) where
   }
 
   -- one that does not stores nothing that is seen
-  sound_taken : IsSound w → MayStore (view w) master backup segment bytes → (found : Option Segments) → get w.backups backup ≡ found → IsSound (with_stored_by w backup taken found)
+  pub sound_taken : IsSound w → MayStore (view w) master backup segment bytes → (found : Option Segments) → get w.backups backup ≡ found → IsSound (with_stored_by w backup taken found)
   sound_taken sound may None found = sound
   sound_taken sound may (Some kept) found =
       subst SoundView (sym (view_taken kept found)) (view_stored (view w) master backup segment bytes sound may)
-
-pub sound_stored : (w : World) (master backup segment : ℕ) (bytes : List ℕ) → IsSound w → MayStore (view w) master backup segment bytes → IsSound (bytes_stored_in w master backup segment bytes)
-sound_stored w master backup segment bytes sound may =
-    sound_taken w master backup segment bytes sound may (get w.backups backup) refl

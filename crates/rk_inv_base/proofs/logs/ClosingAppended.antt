@@ -6,7 +6,7 @@ use Rattle.rk_inv_base.proofs.Words.{meets, Member, Range, slice_get_push_cases,
 use Rattle.rk_inv_base.proofs.Words.{unmarked_from, named, named_by, side_entries, with_number, has_all, is_absent, with_handover}
 use Rattle.rk_inv_base.proofs.Words.{closing_appended, World, log_in, master_at, tablet_in, Written, member_material, member_truth, bond_of}
 use Rattle.rk_inv_base.proofs.Words.{post_of, IsTarget, MembersFit, NamedFit, closing_joined, is_granted, named_items, EachHasCall}
-use Rattle.rk_inv_base.proofs.Words.{is_call_entry, IsPlaced, as_closed, View, view, IsSound, SoundView, has_merged, is_idle, is_rebuilding}
+use Rattle.rk_inv_base.proofs.Words.{is_call_entry, IsPlaced, as_closed, View, view, SoundView, has_merged, is_idle, is_rebuilding}
 use Rattle.rk_inv_base.proofs.Words.{is_serving, is_wanting, may_have_staged, wanted_place, MayJoin, closed_off, closing_appended_in}
 use Rattle.rk_transfer.specs.declared.role.Role.TheVariants as roles
 use Rattle.rk_inv_base.proofs.Base.{SoundRow, row_in, tablet_here, tablet_apart, put2_by, put_same, put2_same, view_master}
@@ -16,7 +16,7 @@ use Rattle.rk_inv_base.proofs.logs.EntryAppended.{row_beside, view_with_entry, w
 use Rattle.rk_inv_base.proofs.logs.OneMore.{material_same, of_written, rest_at, truth_same, within}
 use Rattle.rk_inv_base.proofs.pulls.Joining.{IsSecond, joining_second, kept_stands, numbered, scanned, stands_kept}
 use Rattle.rk_inv_base.proofs.rows.RowAppended.{StaysAs, rest_fits}
-use Rattle.rk_inv_base.proofs.rows.Serving.{meets_either, of_its_row}
+use Rattle.rk_inv_base.proofs.rows.Serving.{meets_either}
 
 module _ (v : View) (row : Row) (master : ℕ) (sound : SoundView v) (has_row : Contains v.rows row) (may : MayJoin v master row.tablet) where
   abbrev old : Handover
@@ -196,10 +196,3 @@ closed_off_is w master number =
       gathers = put2_same (view w).gathers master number i;
       merged = put2_same (view w).merged master number i;
     })
-
--- the tablet is that of a row
-pub sound_closing : (w : World) (master number : ℕ) → IsSound w → MayJoin (view w) master number → IsSound (closing_appended_in w master number)
-sound_closing w master number sound may =
-    subst SoundView (sym (closed_off_is w master number))
-    (of_its_row (view w) (λ n. MayJoin (view w) master n → SoundView (closed_off (view w) master n)) sound.roles master number may.lives
-    (ap is_absent may.joining) (λ row has. view_closed_off (view w) row master sound has) may)

@@ -5,7 +5,7 @@ use Rattle.rk_inv_base.proofs.Words.{get_or-set_same, get_or-set_other, le-leb, 
 use Rattle.rk_inv_base.proofs.Words.{list_all, option_map_or, Node, NumberedBytes, told_other, list_all_each, Known, is_whole, known_length}
 use Rattle.rk_inv_base.proofs.Words.{nothing, IsBackup, Log, is_side_stored, known_of, segment_of, side_segments, Body, Append, with_known}
 use Rattle.rk_inv_base.proofs.Words.{World, master_at, tablet_in, Written, IsCopy, IsFromLog, IsKnownBefore, IsLog, LogSays, segments_in}
-use Rattle.rk_inv_base.proofs.Words.{stored_of, READ_BACKUP, View, view, IsSound, LogsOf, SoundView, committed, told_more, committed_told}
+use Rattle.rk_inv_base.proofs.Words.{stored_of, READ_BACKUP, View, view, LogsOf, SoundView, committed, told_more, committed_told}
 use Rattle.rk_inv_base.proofs.Words.{list_all-set, with_told, MayTell, length_told, length_told_in}
 use Rattle.rk_types.specs.declared.node.Node.TheVariants as nodes
 use Rattle.rk_message.specs.declared.message.Body.TheVariants as bodies
@@ -139,7 +139,3 @@ told_is w master backup segment size =
       gathers = put2_same (view w).gathers master 0 i;
       merged = put2_same (view w).merged master 0 i;
     })
-
-pub sound_told : (w : World) (master backup segment size : ℕ) → IsSound w → MayTell (view w) master backup segment size → IsSound (length_told_in w master backup segment size)
-sound_told w master backup segment size sound may =
-    subst SoundView (sym (told_is w master backup segment size)) (view_length_told (view w) master backup segment size sound may)

@@ -2,10 +2,8 @@
 use Rattle.rk_inv_base.proofs.Words.{◌≡◌, ℕ, Bool, true, false, cond, List, [], ◌∷◌, ◌++◌, eqb, ◌⊎◌, refl, ap, sym, subst, ◌∙◌, ⊎_elim, inl}
 use Rattle.rk_inv_base.proofs.Words.{inr, Contains, flat_map, eq-eqb, eqb-true, Contains-append_left, Contains-append_right}
 use Rattle.rk_inv_base.proofs.Words.{list_any-append, bytes_eq-Decides, Held, Member, at_hash, Row, Hashes, contains, got, is_batch}
-use Rattle.rk_inv_base.proofs.Words.{is_receiving, World, GoesOn, source_items, View, view, IsSound, SoundView, or_cases, item_hash}
-use Rattle.rk_inv_base.proofs.Words.{MayResolve, hashes_resolved_in, resolving}
-use Rattle.rk_inv_base.proofs.Base.{view_pulled}
-use Rattle.rk_inv_base.proofs.pulls.PullingChanges.{of_one_row, view_goes_on}
+use Rattle.rk_inv_base.proofs.Words.{is_receiving, GoesOn, source_items, View, or_cases, item_hash}
+use Rattle.rk_inv_base.proofs.Words.{MayResolve, resolving}
 use Rattle.rk_inv_base.proofs.calls.Records.{filter_stands}
 
 -- the outstanding batch is just what is given, where the test says so
@@ -51,9 +49,3 @@ goes_on v row source target hashes may = record {
       (resolved_cases (v.pullings target.master row.tablet).hashes hashes (item_hash item) resolved))
       (arrives (ap is_receiving may.pulling.receiving));
 }
-
-pub sound_resolved : (w : World) (row : Row) (source target : Member) (hashes : List ℕ) → IsSound w → MayResolve (view w) row source target hashes → IsSound (hashes_resolved_in w target.master row.tablet hashes)
-sound_resolved w row source target hashes sound may =
-    subst SoundView (sym (view_pulled w target.master row.tablet (resolving hashes ((view w).pullings target.master row.tablet))))
-    (view_goes_on (view w) target.master row.tablet (λ p. p.token) (λ p. p.batches) (λ p. got p.hashes hashes) sound
-    (of_one_row (view w) row source target (resolving hashes) sound may.pulling (goes_on (view w) row source target hashes may)))

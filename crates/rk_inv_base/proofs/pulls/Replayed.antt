@@ -6,7 +6,7 @@ use Rattle.rk_inv_base.proofs.Words.{is_in, with_newer, IsInScanOrder, Handover,
 use Rattle.rk_inv_base.proofs.Words.{is_member, unmarked_from, Master, tablet_at, side_entries, item_replayed, with_pulled, with_pulling}
 use Rattle.rk_inv_base.proofs.Words.{is_absent, is_receiving, Pulling, Tablet, World, master_at, applied_entries, member_material}
 use Rattle.rk_inv_base.proofs.Words.{member_truth, IsItemWithin, source_items, Holds, bond_of, post_of, IsBare, wanted_place, HasItems}
-use Rattle.rk_inv_base.proofs.Words.{has_all_items, View, view, IsSound, SoundView, is_granted, MayReplay, item_replayed_in, replayed}
+use Rattle.rk_inv_base.proofs.Words.{has_all_items, View, view, SoundView, is_granted, MayReplay, item_replayed_in, replayed}
 use Rattle.rk_transfer.specs.declared.role.Role.TheVariants as roles
 use Rattle.rk_world.specs.Master.{with_item}
 use Rattle.rk_inv_base.proofs.Base.{in_one_row, key_outside, same_number, covered_by, all_by, tablet_apart, tablet_here, put_by, put_same}
@@ -205,8 +205,3 @@ view_item w master number worker item =
       gathers = put2_same (view w).gathers master number i;
       merged = put2_same (view w).merged master number i;
     })
-
-pub sound_replayed : (w : World) (row : Row) (source target : Member) (worker : ℕ) (item : Held) → IsSound w → MayReplay (view w) row source target worker item → IsSound (item_replayed_in w target.master row.tablet worker item)
-sound_replayed w row source target worker item sound may =
-    subst SoundView (sym (view_item w target.master row.tablet worker item))
-    (view_replayed (view w) row source target worker item sound may)

@@ -3,16 +3,15 @@
 use Rattle.rk_inv_base.proofs.Words.{◌≡◌, ℕ, ◌<◌, ◌≤◌, Bool, true, false, List, [], ◌∷◌, ◌++◌, length, refl, sym, ap, ◌∙◌, subst, ⊎_elim}
 use Rattle.rk_inv_base.proofs.Words.{arith, not, ◌==◌, Contains, ltb-true, lt-ltb, length-append, cases_lt, or_right, get_or_past}
 use Rattle.rk_inv_base.proofs.Words.{All-weaker, Member, Entry, FIRST_SIDE_SEGMENT, Phase, Rebuilding, Row, Known, known_length, nothing}
-use Rattle.rk_inv_base.proofs.Words.{IsBackup, Log, bytes_of, known_of, EntryEnd, CopySegment, Gather, is_member, names, IsMaster, World}
+use Rattle.rk_inv_base.proofs.Words.{IsBackup, Log, bytes_of, known_of, EntryEnd, CopySegment, Gather, is_member, names, IsMaster}
 use Rattle.rk_inv_base.proofs.Words.{Written, member_material, Mark, IsCopy, is_main, stored_of, IsGathered, IsReadPart, MarkFits}
 use Rattle.rk_inv_base.proofs.Words.{MarkedFit, NeededOf, READ_BACKUP, member_given_up, member_marked, member_stored, stored_count}
-use Rattle.rk_inv_base.proofs.Words.{IsFormed, segment_gathered_in, View, view, IsSound, SoundView, with_segment, IsGatherOf, GathersOn}
+use Rattle.rk_inv_base.proofs.Words.{IsFormed, View, SoundView, with_segment, IsGatherOf, GathersOn}
 use Rattle.rk_inv_base.proofs.Words.{MayGather, MayGatherOn, reading}
 use Rattle.rk_outside.specs.Segments.{bytes_of as read_bytes}
 use Rattle.rk_inv_base.proofs.Base.{NeedsFew, NoneBehind, members_read, read_apart, same_member, same_members, segment_read, same_number}
 use Rattle.rk_inv_base.proofs.Base.{AreAmong, IsStoredEnd, among_then, end_stored, given_up_among, living_among, needed_member}
-use Rattle.rk_inv_base.proofs.Base.{needed_within, tells_among, bytes_before, view_gathered, row_in, IsRebuiltIn}
-use Rattle.rk_inv_base.proofs.rebuilds.GatheringChanges.{view_gathers_on}
+use Rattle.rk_inv_base.proofs.Base.{needed_within, tells_among, bytes_before, row_in, IsRebuiltIn}
 
 -- of a copy where nothing of a main segment is known to be stored, nothing is stored of a later one
 pub copy_none_stored : (log : Log) (stored : ℕ → List ℕ) (known : Known) → IsCopy log stored known → (earlier later : ℕ) → 1 ≤ earlier → earlier < later → is_main later ≡ true → known_length known earlier ≡ 0 → 0 < length (stored later) → ⊥
@@ -131,8 +130,3 @@ pub may_go_on : (v : View) (own : ℕ) (copy : CopySegment) → SoundView v → 
 may_go_on v own copy sound may row lineage has its phase term =
     goes_on v row lineage own copy sound has phase term
     (subst (λ (n : ℕ). MayGather v own n copy.master copy.segment copy.bytes) (sym its) may)
-
-pub sound_gathered : (w : World) (own : ℕ) (copy : CopySegment) → IsSound w → MayGather (view w) own copy.tenure.tablet copy.master copy.segment copy.bytes → IsSound (segment_gathered_in w own copy)
-sound_gathered w own copy sound may =
-    subst SoundView (sym (view_gathered w own copy.tenure.tablet (reading copy ((view w).gathers own copy.tenure.tablet))))
-    (view_gathers_on (view w) own copy.tenure.tablet (reading copy) sound (may_go_on (view w) own copy sound may))

@@ -1,11 +1,10 @@
 -- A lane stays sound when a source closes a tablet at a greater term, as its row asks it to, or where it is to rebuild the tablet that
 -- was its alone.
-use Rattle.rk_inv_base.proofs.Words.{◌⊎◌, ◌≡◌, ℕ, ◌<◌, ◌≤◌, true, List, [], ◌∷◌, sym, subst, arith, Member, role_closed, Handover, Role}
-use Rattle.rk_inv_base.proofs.Words.{lineage_of, Phase, Row, no_gather, is_member, World, IsClosing, IsOnlyRebuilder, IsOwner, MayTakeRole}
-use Rattle.rk_inv_base.proofs.Words.{Post, post_of, bond_of, Holds, speaks, View, view, IsSound, SoundView, MayClose, as_closing}
-use Rattle.rk_inv_base.proofs.Words.{tablet_closed_in}
+use Rattle.rk_inv_base.proofs.Words.{◌⊎◌, ◌≡◌, ℕ, ◌<◌, ◌≤◌, true, List, [], ◌∷◌, arith, Member, role_closed, Handover, Role}
+use Rattle.rk_inv_base.proofs.Words.{lineage_of, Phase, Row, is_member, IsClosing, IsOnlyRebuilder, IsOwner, MayTakeRole}
+use Rattle.rk_inv_base.proofs.Words.{Post, post_of, bond_of, Holds, speaks, View, SoundView, MayClose, as_closing}
 use Rattle.rk_transfer.specs.declared.role.Role.TheVariants as roles
-use Rattle.rk_inv_base.proofs.Base.{view_role_taken, view_taken, row_in}
+use Rattle.rk_inv_base.proofs.Base.{row_in}
 
 -- ---- roles that may close
 
@@ -51,9 +50,3 @@ module _ (v : View) (row : Row) (master term : ℕ) (sound : SoundView v) (may :
 
   pub takes_role : MayTakeRole v row master (as_closing term old)
   takes_role = grind (arith, within, alone, ranged, closes, role_closed, speaks)
-
-pub sound_closed : (w : World) (row : Row) (master term : ℕ) → IsSound w → MayClose (view w) row master term → IsSound (tablet_closed_in w master row.tablet term)
-sound_closed w row master term sound may =
-    let new : Handover = as_closing term ((view w).handovers master row.tablet) in
-    subst SoundView (sym (view_taken w master row.tablet new no_gather []))
-    (view_role_taken (view w) row master new no_gather [] sound (takes_role (view w) row master term sound may))

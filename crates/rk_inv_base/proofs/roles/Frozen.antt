@@ -1,10 +1,9 @@
 -- A lane stays sound when a tablet freezes of which nothing is left to be applied.
-use Rattle.rk_inv_base.proofs.Words.{◌≡◌, ℕ, sym, ap, subst, arith, Contains, Handover, Role, Row, is_absent, World, is_wanting}
+use Rattle.rk_inv_base.proofs.Words.{◌≡◌, ℕ, sym, subst, arith, Contains, Handover, Role, Row, is_absent, World, is_wanting}
 use Rattle.rk_inv_base.proofs.Words.{MayTakeRole, post_of, bond_of, Holds, as_frozen, View, view, IsSound, SoundView, MayFreeze}
 use Rattle.rk_inv_base.proofs.Words.{tablet_frozen_in}
 use Rattle.rk_transfer.specs.declared.role.Role.TheVariants as roles
 use Rattle.rk_inv_base.proofs.Base.{alike_frozen, speaks_alike, inside_member, view_role_taken, view_taken, row_in, at_most}
-use Rattle.rk_inv_base.proofs.rows.Serving.{of_its_row}
 
 module _ (v : View) (row : Row) (master : ℕ) (sound : SoundView v) (has_row : Contains v.rows row) (may : MayFreeze v master row.tablet) where
   abbrev old : Handover
@@ -29,9 +28,3 @@ frozen_of_row w row master sound has may =
     let new : Handover = as_frozen (v.handovers master row.tablet) in
     subst SoundView (sym (view_taken w master row.tablet new (v.gathers master row.tablet) (v.merged master row.tablet)))
     (view_role_taken v row master new (v.gathers master row.tablet) (v.merged master row.tablet) sound (takes_role v row master sound has may))
-
--- each tablet that closes is
-pub sound_frozen : (w : World) (master number : ℕ) → IsSound w → MayFreeze (view w) master number → IsSound (tablet_frozen_in w master number)
-sound_frozen w master number sound may =
-    of_its_row (view w) (λ n. MayFreeze (view w) master n → IsSound (tablet_frozen_in w master n)) sound.roles master number may.lives
-    (ap is_absent may.closing) (λ row has. frozen_of_row w row master sound has) may

@@ -1,8 +1,7 @@
 -- A lane stays sound when the owner of a row, or one that owned it at the term that it keeps, serves once its closing entry is applied.
-use Rattle.rk_inv_base.proofs.Words.{◌≡◌, ℕ, true, false, [], refl, sym, ap, ◌∙◌, subst, arith, lt-ltb, false≢true, get, Handover, Role}
+use Rattle.rk_inv_base.proofs.Words.{◌≡◌, ℕ, true, false, [], refl, sym, ap, ◌∙◌, arith, lt-ltb, false≢true, get, Handover, Role}
 use Rattle.rk_inv_base.proofs.Words.{Row, no_gather, Pulling, pulling_from, without_merged, World, tablet_in, MayTakeRole, post_of, speaks}
-use Rattle.rk_inv_base.proofs.Words.{is_granted, role_taken, View, view, IsSound, SoundView, MayOwn, as_serving, pulled, tablet_owned_in}
-use Rattle.rk_transfer.specs.declared.role.Role.TheVariants as roles
+use Rattle.rk_inv_base.proofs.Words.{is_granted, role_taken, View, view, SoundView, MayOwn, as_serving, pulled, tablet_owned_in}
 use Rattle.rk_inv_base.proofs.Base.{put2_by, put2_here, put2_same, IsTargetIn, view_role_taken, view_kept, row_in, at_most}
 use Rattle.rk_inv_base.proofs.views.WithRecords.{view_with_pullings}
 
@@ -66,7 +65,3 @@ view_serves v row master sound may =
     view_forgets_pulled (role_taken v master row.tablet new no_gather []) master row.tablet (pulling_from 0)
     (view_role_taken v row master new no_gather [] sound (serves v row master sound may))
     (ap (λ (h : Handover). is_granted h.role) (put2_here v.handovers master row.tablet new master row.tablet refl refl))
-
-pub sound_owned : (w : World) (row : Row) (master : ℕ) → IsSound w → MayOwn (view w) row master → IsSound (tablet_owned_in w master row.tablet)
-sound_owned w row master sound may =
-    subst SoundView (sym (view_owned w master row.tablet)) (view_serves (view w) row master sound may)

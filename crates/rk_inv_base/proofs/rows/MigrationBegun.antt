@@ -1,10 +1,9 @@
 -- A lane stays sound when a row that is owned begins to move to another master that is there, at the next term.
 use Rattle.rk_inv_base.proofs.Words.{◌≡◌, ℕ, ◌+◌, Bool, true, cond, eqb, None, sym, ap, subst, ◌∙◌, ⊎_elim, arith, eqb-true, ◌⊎◌, or_cases}
-use Rattle.rk_inv_base.proofs.Words.{Role, lineage_of, Phase, Opening, Row, names, IsMaster, World, MayTakePost, MayTurn, Post, Owner}
-use Rattle.rk_inv_base.proofs.Words.{OpeningSource, InvitedTarget, Bystander, post_of, bond_of, Holds, StillCounts, View, view, IsSound}
-use Rattle.rk_inv_base.proofs.Words.{SoundView, MayMigrate, migration_begun_in}
+use Rattle.rk_inv_base.proofs.Words.{Role, lineage_of, Phase, Opening, Row, names, IsMaster, MayTakePost, MayTurn, Post, Owner}
+use Rattle.rk_inv_base.proofs.Words.{OpeningSource, InvitedTarget, Bystander, post_of, bond_of, Holds, StillCounts, View}
+use Rattle.rk_inv_base.proofs.Words.{SoundView, MayMigrate}
 use Rattle.rk_inv_base.proofs.Base.{IsEarly, at_most, counted_before, none_closes, none_marked, none_rebuilds, SoundRow, row_in}
-use Rattle.rk_inv_base.proofs.rows.RowTurned.{view_changed}
 
 -- ---- posts at the next term
 
@@ -49,7 +48,3 @@ module _ (v : View) (row : Row) (to : ℕ) (sound : SoundView v) (may : MayMigra
 
   pub may_begin : MayTurn v row (row.term + 1) opening
   may_begin = grind (arith, lineage_of, named, posts, none_closes, early, none_rebuilds, none_marked)
-
-pub sound_migrated : (w : World) (row : Row) (to : ℕ) → IsSound w → (may : MayMigrate (view w) row to) → IsSound (migration_begun_in w row may.owner may.from to)
-sound_migrated w row to sound may =
-    view_changed (view w) row (row.term + 1) (Opening may.owner may.from to None) sound (may_begin (view w) row to sound may)

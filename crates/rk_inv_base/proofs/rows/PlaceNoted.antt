@@ -1,11 +1,10 @@
 -- A view stays sound when the place of a target is noted, where that waits at it at the row's term.
 use Rattle.rk_inv_base.proofs.Words.{arith, ◌≡◌, ℕ, Bool, true, cond, eqb, Some, refl, sym, ap, subst, ◌∙◌, eqb-true, Handover, lineage_of}
-use Rattle.rk_inv_base.proofs.Words.{Phase, Opening, Row, names, IsMaster, World, MayTakePost, MayTurn, Post, InvitedTarget, ReadyTarget}
-use Rattle.rk_inv_base.proofs.Words.{OpeningSource, Bystander, post_of, bond_of, Holds, StillCounts, View, view, IsSound, SoundView}
-use Rattle.rk_inv_base.proofs.Words.{MayNote, place_noted_in}
+use Rattle.rk_inv_base.proofs.Words.{Phase, Opening, Row, names, IsMaster, MayTakePost, MayTurn, Post, InvitedTarget, ReadyTarget}
+use Rattle.rk_inv_base.proofs.Words.{OpeningSource, Bystander, post_of, bond_of, Holds, StillCounts, View, SoundView}
+use Rattle.rk_inv_base.proofs.Words.{MayNote}
 use Rattle.rk_transfer.specs.declared.role.Role.TheVariants as roles
 use Rattle.rk_inv_base.proofs.Base.{IsEarly, none_closes, none_marked, none_rebuilds, SoundRow, row_in}
-use Rattle.rk_inv_base.proofs.rows.RowTurned.{view_changed}
 
 -- a target that waits at its place, at the row's term, is ready
 pub ready_post : (place term : ℕ) (handover : Handover) (applied : ℕ) → handover.role ≡ roles.Wanting place → handover.term ≡ term → MayTakePost InvitedTarget (ReadyTarget place) term term handover applied
@@ -43,8 +42,3 @@ module _ (v : View) (row : Row) (source sfrom target place : ℕ) (sound : Sound
 
   pub may_be_noted : MayTurn v row row.term noted
   may_be_noted = grind (arith, lineage_of, its, named, posts, none_closes, early, none_rebuilds, none_marked)
-
-pub sound_noted : (w : World) (row : Row) (source sfrom target place : ℕ) → IsSound w → MayNote (view w) row source sfrom target place → IsSound (place_noted_in w row source sfrom target place)
-sound_noted w row source sfrom target place sound may =
-    view_changed (view w) row row.term (Opening source sfrom target (Some place)) sound
-    (may_be_noted (view w) row source sfrom target place sound may)

@@ -14,7 +14,7 @@ use Rattle.rk_inv_base.proofs.Words.{choice_of, cond-false, cond-true, filled, f
 use Rattle.rk_inv_base.proofs.Words.{items_of, lives, map_after, master_at, never, newest, next_record, place_of, record_of, staged}
 use Rattle.rk_inv_base.proofs.Words.{state_of, tablet_in, truths, view, with_all_sent, with_all_served, with_ledger, with_marks}
 use Rattle.rk_inv_base.proofs.Words.{with_master, with_mutation, with_record, Row}
-use Rattle.rk_inv_base.proofs.calls.ReadRecorded.{sound_recorded}
+use Rattle.rk_inv_base.proofs.Headlines.{sound_recorded}
 use Rattle.rk_inv_events.proofs.Words.{MayRead, length_push, row_true, sound_sent, was_read}
 use Rattle.rk_inv_events.proofs.answer.FoundItems.{has_arrived}
 use Rattle.rk_inv_events.proofs.answer.RecordFound.{Knows, record_found}

@@ -6,7 +6,7 @@ use Rattle.rk_inv_base.proofs.Words.{All-contains, All-nil, All-weaker, Any-from
 use Rattle.rk_inv_base.proofs.Words.{IsFormedGathered, IsFormedHeld, IsLawfulEntry, IsLawfulHeld, IsMaster, IsSound, IsWellFormed}
 use Rattle.rk_inv_base.proofs.Words.{LAST_MAIN_SEGMENT, World, and_parts, limits_of, lives, master_at, range_with_len, tablet_at, view}
 use Rattle.rk_inv_wellformed.proofs.lanes.Backups.{lawful_of}
-use Rattle.rk_inv_tablets.proofs.crash.Crashed.{sound_crashed}
+use Rattle.rk_inv_tablets.proofs.Headlines.{sound_crashed}
 use Rattle.rk_inv_events.proofs.Words.{AreReadable, MayCrash, room_of_master, segments_few}
 use Rattle.rk_inv_events.proofs.events.Coordinating.{masters_from, of_master, of_tablet, rows_some}
 

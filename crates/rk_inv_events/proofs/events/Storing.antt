@@ -17,7 +17,8 @@ use Rattle.rk_inv_base.proofs.Words.{READ_BACKUP, ReadIn, ReadSegment, Rebuildin
 use Rattle.rk_inv_base.proofs.Words.{and_parts, backed_at, backup_at, cases_eq, cases_lt, drop_all, get, get_other, get_same, insert}
 use Rattle.rk_inv_base.proofs.Words.{is_backup, known_of, log_bytes_of, log_in, no_segments, quietly, stored_of, take-append-le, to_backup}
 use Rattle.rk_inv_base.proofs.Words.{view, with_stored_by, cases_Bool}
-use Rattle.rk_inv_base.proofs.logs.BytesStored.{part_taken, sound_stored}
+use Rattle.rk_inv_base.proofs.Headlines.{sound_stored}
+use Rattle.rk_inv_base.proofs.logs.BytesStored.{part_taken}
 use Rattle.rk_inv_base.proofs.logs.Logs.{first_part_more}
 use Rattle.rk_inv_events.proofs.Words.{MayStore, first_part_itself, needed_stored, row_in, row_rebuilt, row_said, sound_sent, by_found}
 use Rattle.rk_inv_events.proofs.Words.{either_way}

@@ -14,9 +14,7 @@ use Rattle.rk_inv_base.proofs.Words.{master_at, meets, no_tablet, own_taken, own
 use Rattle.rk_inv_base.proofs.Words.{rests, role_closed, sending, speaks, tablet_at, tablet_closed, tablet_in, target_post, to_master}
 use Rattle.rk_inv_base.proofs.Words.{transfer, transferring, truths, view, with_handover, with_master, without_merged, worked_at}
 use Rattle.rk_inv_base.proofs.rows.Apart.{same_number}
-use Rattle.rk_inv_base.proofs.roles.Closed.{sound_closed}
-use Rattle.rk_inv_base.proofs.roles.Owned.{sound_owned}
-use Rattle.rk_inv_base.proofs.roles.Released.{sound_released}
+use Rattle.rk_inv_base.proofs.Headlines.{sound_closed, sound_owned, sound_released}
 use Rattle.rk_inv_events.proofs.Words.{IsClosed, MayClose, all_by, all_in_map, as_closing, as_released, as_serving, by_found, is_above}
 use Rattle.rk_inv_events.proofs.Words.{master_same, role_owned, role_released, row_in, row_said, sound_frozen, tablet_here, tablet_owned}
 use Rattle.rk_inv_events.proofs.Words.{tablet_released}

@@ -9,8 +9,9 @@ use Rattle.rk_inv_base.proofs.Words.{is_side_stored, joined, joined_entry, joini
 use Rattle.rk_inv_base.proofs.Words.{next_sides, next_token, passed, pulled_all, replay, sealed_sides, sealing, source_items, tablet_at}
 use Rattle.rk_inv_base.proofs.Words.{tablet_in, token_passed, view, with_entry, with_handover, with_master, with_pulling, with_side_segment}
 use Rattle.rk_inv_base.proofs.Words.{with_tablet}
-use Rattle.rk_inv_base.proofs.pulls.TokenPassed.{sound_passed}
-use Rattle.rk_inv_tablets.proofs.seal.Sealed.{sealed_is, sound_sealed}
+use Rattle.rk_inv_base.proofs.Headlines.{sound_passed}
+use Rattle.rk_inv_tablets.proofs.Headlines.{sound_sealed}
+use Rattle.rk_inv_tablets.proofs.seal.Sealed.{sealed_is}
 use Rattle.rk_inv_tablets.specs.seal.Small.{as_joining, as_sealed, side_lists_sealed_in, with_sides}
 use Rattle.rk_inv_events.proofs.Words.{MaySealThere, law_passed, master_same, put_here, role_joined, sound_closing, tablet_here}
 use Rattle.rk_inv_events.proofs.events.Pairs.{insert_twice}

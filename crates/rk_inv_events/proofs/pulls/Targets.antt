@@ -21,9 +21,9 @@ use Rattle.rk_inv_base.proofs.Words.{none_stands, passed, post_of, put, put2, re
 use Rattle.rk_inv_base.proofs.Words.{stands_cases, tablet_in, to_master, view, with_item, with_master, with_newer, with_pulled, worked_at}
 use Rattle.rk_inv_base.proofs.pulls.Joining.{joining_second, kept_stands, scanned, stands_kept}
 use Rattle.rk_inv_tablets.proofs.seal.SidesJoined.{fits_joining}
-use Rattle.rk_inv_base.proofs.pulls.Replayed.{sound_replayed, view_item}
+use Rattle.rk_inv_base.proofs.Headlines.{sound_replayed, sound_resolved}
+use Rattle.rk_inv_base.proofs.pulls.Replayed.{view_item}
 use Rattle.rk_inv_logs.proofs.apply.ItemPut.{put_found}
-use Rattle.rk_inv_base.proofs.pulls.HashesResolved.{sound_resolved}
 use Rattle.rk_inv_wellformed.proofs.masters.Pulls.{items_again}
 use Rattle.rk_inv_events.proofs.Words.{AreIn, IsIn, IsTargetIn, IsThere, filter_from, first_stand, flat_among, found_still, in_by_key}
 use Rattle.rk_inv_events.proofs.Words.{is_live_in, item_cmp, kept_among, law_whole, left, left_in_two, live_in, master_same, newest_scanned}

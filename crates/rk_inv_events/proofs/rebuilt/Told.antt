@@ -11,7 +11,7 @@ use Rattle.rk_inv_base.proofs.Words.{delivered, get, happened, own_to, rebuilt_i
 use Rattle.rk_inv_base.proofs.Words.{view, with_all_sent, with_ends, with_ledger}
 use Rattle.rk_inv_rows.proofs.lineage.RebuiltWorld.{sound_rebuilt_taken}
 use Rattle.rk_inv_logs.proofs.made.RebuiltEnds.{ends_known, ends_reach, made_is, others_tell, records_made}
-use Rattle.rk_inv_logs.proofs.read.ReadBack.{read_of_rebuilt}
+use Rattle.rk_inv_logs.proofs.Headlines.{read_of_rebuilt}
 use Rattle.rk_inv_logs.specs.read.Moves.{MayTakeRebuiltFormed}
 use Rattle.rk_inv_logs.specs.read.ReadBack.{IsReadBack}
 use Rattle.rk_inv_events.proofs.Words.{MayOwnRebuilt, rebuilt_at, rebuilt_taken_in, row_owned_in, row_said, without_marks}
@@ -35,10 +35,6 @@ module _ (v : View) (row : Row) (lineage : List Member) (to place : ℕ) (ends :
       may_own v row lineage to place ends sound may.ranges may.may read (made_is v row members sound may.may.has_row read)
       (ends_reach v row members sound may.may.has_row read) (ends_known v row members sound may.may.has_row read)
       (records_made v row members sound may.may.has_row read) (others_tell v row members sound may.may.has_row read)
-
-pub sound_taken : (w : World) (row : Row) (lineage : List Member) (to place : ℕ) (ends : List Ended) → IsSound w → MayTakeRebuiltFormed (view w) row lineage to place ends → IsSound (rebuilt_taken_in w row to place ends)
-sound_taken w row lineage to place ends sound may =
-    sound_rebuilt_taken w row lineage to place ends sound (owns_rebuilt (view w) row lineage to place ends sound may)
 
 -- ---- the coordinator takes a Rebuilt
 

@@ -5,7 +5,7 @@ use Rattle.std.proofs.Common.{ap, not, subst, sym, true, ℕ, ◌≡◌}
 use Rattle.rk_types.specs.declared.call.Answer.TheVariants as answers
 use Rattle.rk_inv_base.proofs.Words.{Choice, Ignores, IsSound, Redirects, Request, Wants, World, answering, call_of, chosen, hash_of, lives}
 use Rattle.rk_inv_base.proofs.Words.{master_at, to_master, view, with_master, worked_at}
-use Rattle.rk_inv_base.proofs.pulls.HashWanted.{sound_wanted}
+use Rattle.rk_inv_base.proofs.Headlines.{sound_wanted}
 use Rattle.rk_inv_events.proofs.events.Sending.{may_reply}
 use Rattle.rk_inv_events.proofs.events.Working.{reached_or_lost, sound_changed, sound_sending, sound_unchanged}
 use Rattle.rk_inv_events.specs.request.Small.{choice_in, request_message}

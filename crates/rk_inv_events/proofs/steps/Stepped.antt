@@ -9,7 +9,7 @@ use Rattle.rk_inv_base.proofs.Words.{Body, Called, Event, Gave, HasRoom, IsSound
 use Rattle.rk_inv_base.proofs.Words.{Stepped, World, batch_taken, cases_Bool, changed, delivered, delivered_to, get, happened, has_crashed}
 use Rattle.rk_inv_base.proofs.Words.{is_receiving_at, is_token, losing, master_at, pulled_taken, tablet_in, to_backup, to_coordinator}
 use Rattle.rk_inv_base.proofs.Words.{to_master, view, worked_at}
-use Rattle.rk_inv_base.proofs.wire.Forgotten.{sound_forgotten}
+use Rattle.rk_inv_base.proofs.Headlines.{sound_forgotten}
 use Rattle.rk_inv_wellformed.proofs.lanes.Events.{does_not_hold, has_no_fault}
 use Rattle.rk_inv_wellformed.proofs.lanes.Whole.{formed_event}
 use Rattle.rk_inv_events.proofs.Words.{AreSealedThere, told_for, told_to}

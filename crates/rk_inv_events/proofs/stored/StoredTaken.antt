@@ -29,7 +29,7 @@ use Rattle.rk_world.specs.Commits.{ended_call}
 use Rattle.rk_world.specs.Worked.{then_works}
 use Rattle.rk_inv_logs.proofs.apply.EntryApplied.{sound_applied}
 use Rattle.rk_log.proofs.Cuts.{length-le-bytes}
-use Rattle.rk_inv_base.proofs.logs.LengthTold.{sound_told}
+use Rattle.rk_inv_base.proofs.Headlines.{sound_told}
 use Rattle.rk_inv_base.proofs.logs.Shares.{append_nil}
 use Rattle.rk_inv_events.proofs.Words.{Applying, IsFormedSide, MayFreeze, all_in, applying, by_found, entry_applied_in, its_last}
 use Rattle.rk_inv_events.proofs.Words.{master_same, meets_itself, mutation, not-true, order_tail, position_or_len, role_frozen, role_joined}

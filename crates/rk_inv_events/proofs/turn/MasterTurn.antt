@@ -13,7 +13,7 @@ use Rattle.rk_inv_base.proofs.Words.{Tablet, View, Worked, World, appends, chang
 use Rattle.rk_inv_base.proofs.Words.{get_other, has_crashed, ledger_after, log_in, master_at, master_turn, next_reading, no_tablet, put2}
 use Rattle.rk_inv_base.proofs.Words.{reading_duty, sending, tablet_at, tablet_duty, tablet_in, turned, view, with_all_sent, with_all_served}
 use Rattle.rk_inv_base.proofs.Words.{with_ledger, with_marks, with_master, with_outstanding, worked_at}
-use Rattle.rk_inv_base.proofs.pulls.HashWanted.{sound_asked_for}
+use Rattle.rk_inv_base.proofs.Headlines.{sound_asked_for}
 use Rattle.rk_inv_events.proofs.Words.{all_in, asking_batch, batch_asked_in, by_found, either_way, order_tail, view_pulled}
 use Rattle.rk_inv_events.proofs.events.Sending.{MaySendFilled, sound_all_sent}
 use Rattle.rk_inv_events.proofs.events.Working.{put_again, sound_unchanged, view_unchanged}

@@ -6,8 +6,7 @@ use Rattle.rk_inv_base.proofs.Words.{Allowed, Call, Choice, HasSegmentLeft, Held
 use Rattle.rk_inv_base.proofs.Words.{Request, Tablet, View, WasAsked, World, Writes, call_of, end_of_item, found, get, hash_of, is_known}
 use Rattle.rk_inv_base.proofs.Words.{is_mutation, items_of, lives, log_in, master_at, newest, option_or, outcome_of, record_of, refused_as}
 use Rattle.rk_inv_base.proofs.Words.{staged, state_of, view}
-use Rattle.rk_inv_base.proofs.calls.RefusalStaged.{sound_refused}
-use Rattle.rk_inv_base.proofs.calls.WriteStaged.{sound_staged}
+use Rattle.rk_inv_base.proofs.Headlines.{sound_refused, sound_staged}
 use Rattle.rk_inv_events.proofs.Words.{MayEndIn, next_version, refusal_staged_in, write_staged_in}
 use Rattle.rk_inv_events.proofs.request.Choices.{IsFresh, fresh, staging_mutates}
 use Rattle.rk_inv_events.proofs.request.Served.{IsServedAt, served_at}

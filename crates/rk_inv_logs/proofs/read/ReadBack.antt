@@ -10,7 +10,7 @@ use Rattle.rk_inv_base.proofs.Words.{member_truth, member_marked, View, slice_ge
 use Rattle.rk_inv_base.proofs.Words.{EntryEnd, LAST_MAIN_SEGMENT, is_marked, stored_of, MayTakeRebuilt, READ_BACKUP, TellsMore}
 use Rattle.rk_inv_base.proofs.Words.{member_given_up, member_stored, stored_count, SoundView, or_from, All-cons, All-nil, lineage_of}
 use Rattle.rk_inv_base.proofs.Words.{is_member, counting, own_place, lineage_rest, lineage_truth, NamedFit, FirstIsDone, IsDone}
-use Rattle.rk_inv_base.proofs.Words.{OnlyIsUnnamed, rests, truths, or_parts, All-contains}
+use Rattle.rk_inv_base.proofs.Words.{OnlyIsUnnamed, rests, truths, or_parts}
 use Rattle.rk_inv_logs.proofs.Words.{behind_at, kept_stands, stands_kept, AreAmong, among_then, flat_from, flat_of, named_from, named_of}
 use Rattle.rk_inv_logs.proofs.Words.{free_place, free_stands, taken_at, first_counted, AreReadable, tells_among, sides_named, side_material}
 use Rattle.rk_inv_logs.proofs.Words.{first_among, contains_cases, differ}
@@ -25,7 +25,6 @@ use Rattle.rk_inv_logs.proofs.read.ReadOf.{is_log, Taken, main_of, given_up, nee
 use Rattle.rk_inv_logs.proofs.read.ReadOf.{own_done, own_is, rebuilder, own_stands}
 use Rattle.rk_log.specs.Cut.{ends as ends_there}
 use Rattle.rk_tablet_map.specs.Phase.{member as member_at}
-use Rattle.rk_inv_logs.specs.read.Moves.{MayTakeRebuiltFormed, read_by_member}
 use Rattle.rk_inv_rows.proofs.lineage.TargetMaterial.{names_joins}
 
 module _ (range : Range) (to : ℕ) (own : List Entry) where
@@ -620,13 +619,8 @@ module _ (v : View) (row : Row) (to place : ℕ) (ends : List Ended) (sound : So
         ]
       ]
 
-  by_lineage : (lineage : List Member) → MayTakeRebuilt v row lineage to place ends → IsBack v row to place ends sound readable some few
+  pub by_lineage : (lineage : List Member) → MayTakeRebuilt v row lineage to place ends → IsBack v row to place ends sound readable some few
   by_lineage [] may = absurd (apart v (taken v row to place ends sound readable some few [] may))
   by_lineage (only ∷ []) may = of_one only may
   by_lineage (first ∷ last ∷ []) may = of_two first last may
   by_lineage (first ∷ second ∷ third ∷ more) may = absurd (apart v (taken v row to place ends sound readable some few (first ∷ second ∷ third ∷ more) may))
-
--- so it is of a rebuild that may be taken
-pub read_of_rebuilt : (v : View) (row : Row) (lineage : List Member) (to place : ℕ) (ends : List Ended) → SoundView v → MayTakeRebuiltFormed v row lineage to place ends → IsReadBack (truths v row) (rests v row) (read_by_member v row to)
-read_of_rebuilt v row lineage to place ends sound may = by_lineage v row to place ends sound may.readable
-    (All-contains (λ (r : Row). r.range.first ≤ r.range.last) v.rows row may.ranges may.may.has_row) may.gathered lineage may.may

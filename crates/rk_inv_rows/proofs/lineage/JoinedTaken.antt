@@ -11,11 +11,11 @@ use Rattle.rk_inv_base.proofs.Words.{floor_of, has_all, Pulling, Written, applie
 use Rattle.rk_inv_base.proofs.Words.{member_rest, member_truth, TellAll, AreAboveMap, beginning_in, target_truth, HasJoined, MayTakeJoined}
 use Rattle.rk_inv_base.proofs.Words.{HasArrived, HasClosing, IsOutdone, IsReceived, IsTarget, before_closing, beginning_of, closing_joined}
 use Rattle.rk_inv_base.proofs.Words.{copied_items, entries_from, is_granted, joined_place, scan_items, KeepTerm, IsTableOf, View, truths}
-use Rattle.rk_inv_base.proofs.Words.{rests, SoundView, IsKnown, Call, All-tail, Owned, last_of, World, HasSome, row_at, Bystander}
+use Rattle.rk_inv_base.proofs.Words.{rests, SoundView, IsKnown, Call, All-tail, Owned, last_of, row_at, Bystander}
 use Rattle.rk_inv_base.proofs.Words.{MovingSource, MovingTarget, Owner, Post, Holds, StillCounts, bond_of, post_of, speaks, RoleFits}
-use Rattle.rk_inv_base.proofs.Words.{IsPlaced, HasItems, has_all_items, view, IsSound, has_key}
+use Rattle.rk_inv_base.proofs.Words.{IsPlaced, HasItems, has_all_items, has_key}
 use Rattle.rk_inv_rows.proofs.Words.{member as member_at, all_by, marks_none, TellHistory, SoundRow, row_in, MayTakeLineage, MembersAgree}
-use Rattle.rk_inv_rows.proofs.Words.{lineage_taken, row_owned_in}
+use Rattle.rk_inv_rows.proofs.Words.{lineage_taken}
 use Rattle.rk_sound.specs.Receives.{IsClosedAt}
 use Rattle.rk_inv_base.proofs.logs.InRange.{scan_in, truth_in}
 use Rattle.rk_inv_rows.proofs.lineage.Among.{first_stand, flat_among, kept_among, later_stands, longer_stands}
@@ -25,7 +25,7 @@ use Rattle.rk_inv_rows.proofs.lineage.Pieces.{joined_unmarked, unmarked_stood}
 use Rattle.rk_inv_rows.proofs.lineage.Scanned.{newest_scanned, scan_newest}
 use Rattle.rk_inv_rows.proofs.lineage.TakenOver.{HasBoth, TakesOver, above_fewer, live_over, plain_above, plain_fewer, table_over}
 use Rattle.rk_inv_rows.proofs.lineage.TargetMaterial.{HasJoinedLog, entry_stands, has_both, has_itself, none_behind_applied}
-use Rattle.rk_inv_rows.proofs.lineage.LineageSays.{rows_after, view_lineage_taken}
+use Rattle.rk_inv_rows.proofs.lineage.LineageSays.{view_lineage_taken}
 use Rattle.rk_entry.specs.declared.entry.Entry.TheVariants as entries
 use Rattle.rk_transfer.specs.declared.role.Role.TheVariants as roles
 
@@ -423,9 +423,3 @@ module _ (v : View) (row : Row) (source sfrom target dfrom : ℕ) (sound : Sound
 
   pub view_joined_taken : SoundView (lineage_taken v new v.handed)
   view_joined_taken = view_lineage_taken v row owned v.handed sound may_be_owned
-
-pub sound_joined_taken : (w : World) (row : Row) (source sfrom target dfrom : ℕ) → IsSound w → HasSome row.range → MayTakeJoined (view w) row source sfrom target dfrom → IsSound (row_owned_in w row target dfrom)
-sound_joined_taken w row source sfrom target dfrom sound some may =
-    let turned = may_be_owned (view w) row source sfrom target dfrom sound some may in
-    rw (rows_after (view w) row (Owned target dfrom) (view w).handed sound turned)
-    (view_joined_taken (view w) row source sfrom target dfrom sound some may)

@@ -3,16 +3,16 @@ use Rattle.std.proofs.Common.{◌≡◌, ℕ, ◌≤◌, Bool, true, false, cond
 use Rattle.std.proofs.Common.{inr, append-nil, All, IfSome, filter, Contains, flat_map, option_map, eq-eqb, eqb-true}
 use Rattle.rk_inv_base.proofs.Words.{cond_both, false≢true, All-cons, All-head, All-nil, get_other, get_same, NumberMap, get, insert}
 use Rattle.rk_inv_base.proofs.Words.{Member, map_after, Entry, is_in, Handover, Role, lineage_of, Phase, Opening, Moving, Row, base_map}
-use Rattle.rk_inv_base.proofs.Words.{Handed, items_of, first_of, of_key, side_entries, floor_of, is_idle, World, lineage_rest}
+use Rattle.rk_inv_base.proofs.Words.{Handed, items_of, first_of, of_key, side_entries, floor_of, is_idle, lineage_rest}
 use Rattle.rk_inv_base.proofs.Words.{lineage_truth, member_truth, ReachAll, TellAll, AreAboveMap, IsNext, beginning_in, is_wanting}
-use Rattle.rk_inv_base.proofs.Words.{target_truth, HasSome, row_at, Bystander, MovingSource, MovingTarget, OpeningSource, Post, ReadyTarget}
+use Rattle.rk_inv_base.proofs.Words.{target_truth, row_at, Bystander, MovingSource, MovingTarget, OpeningSource, Post, ReadyTarget}
 use Rattle.rk_inv_base.proofs.Words.{Holds, StillCounts, bond_of, post_of, speaks, IsBare, is_granted, wanted_place, IsDone, RoleFits}
-use Rattle.rk_inv_base.proofs.Words.{IsPlaced, HasItems, IsTableOf, has_all_items, View, view, truths, rests, IsSound, SoundView}
+use Rattle.rk_inv_base.proofs.Words.{IsPlaced, HasItems, IsTableOf, has_all_items, View, truths, rests, SoundView}
 use Rattle.rk_inv_rows.proofs.Words.{member as member_at, MayMove, MayBeLeft, MayTakeLineage, MembersAgree, TellHistory, lineage_taken}
-use Rattle.rk_inv_rows.proofs.Words.{row_moved_in, SoundRow, row_in}
+use Rattle.rk_inv_rows.proofs.Words.{SoundRow, row_in}
 use Rattle.rk_inv_rows.proofs.lineage.FloorsOf.{floor_among}
 use Rattle.rk_inv_rows.proofs.lineage.Histories.{history_of, kept_stands, range_at}
-use Rattle.rk_inv_rows.proofs.lineage.LineageSays.{rows_after, view_lineage_taken}
+use Rattle.rk_inv_rows.proofs.lineage.LineageSays.{view_lineage_taken}
 use Rattle.rk_inv_rows.proofs.lineage.Untouched.{done_settled, names_none, rest_none, truth_none}
 use Rattle.rk_transfer.specs.declared.role.Role.TheVariants as roles
 
@@ -173,10 +173,3 @@ module _ (v : View) (row : Row) (source sfrom target dfrom : ℕ) (given : Hande
 
   pub view_moved : SoundView (lineage_taken v new noted)
   view_moved = view_lineage_taken v row moving noted sound may_be_moved
-
-pub sound_moved : (w : World) (row : Row) (source sfrom target dfrom : ℕ) (given : Handed) → IsSound w → HasSome row.range → MayMove (view w) row source sfrom target dfrom given → IsSound (row_moved_in w row source sfrom target dfrom given)
-sound_moved w row source sfrom target dfrom given sound some may =
-    let turned = may_be_moved (view w) row source sfrom target dfrom given sound some may in
-    let noted : NumberMap Handed = insert (view w).handed row.tablet given in
-    rw (rows_after (view w) row (Moving source sfrom target dfrom) noted sound turned)
-    (view_moved (view w) row source sfrom target dfrom given sound some may)

@@ -6,7 +6,7 @@ use Rattle.rk_inv_base.proofs.Words.{is_split, row_of, Owned, Row, marks_of, Mas
 use Rattle.rk_inv_base.proofs.Words.{has_parts, owner_split, with_half, with_halves, with_split, Tablet, World, has_crashed, lives}
 use Rattle.rk_inv_base.proofs.Words.{master_at, tablet_in, with_coordinator, with_master, written_by, View, view, IsSound, SoundView}
 use Rattle.rk_inv_base.proofs.Words.{false_from_ne_true}
-use Rattle.rk_inv_rows.proofs.Words.{cut_fault, turned, tablet_split, with_rows_split, MaySplit, stands_found, as_half, lower_row}
+use Rattle.rk_inv_rows.proofs.Words.{cut_fault, turned, with_rows_split, MaySplit, stands_found, as_half, lower_row}
 use Rattle.rk_inv_rows.proofs.Words.{rows_halved, row_split_in, upper_row}
 use Rattle.rk_inv_base.proofs.views.Masters.{master_other, master_same, same_of_all, tablet_apart, tablet_here}
 use Rattle.rk_inv_rows.proofs.split.RowSplit.{view_row_split}
@@ -214,7 +214,7 @@ module _ (w : World) (cut : Splitting (view w)) where
       (cases_Bool (has_crashed w owner))
 
 -- one of the rows is split
-row_sound : (w : World) (row : Row) (at new : ℕ) → IsSound w → MaySplit (view w) row at new → IsSound (row_split_in w row at new)
+pub row_sound : (w : World) (row : Row) (at new : ℕ) → IsSound w → MaySplit (view w) row at new → IsSound (row_split_in w row at new)
 row_sound w row at new sound may =
     let rows : List Row = w.coordinator.rows in
     let row_is : record { tablet = row.tablet; range = row.range; term = row.term; phase = Owned may.owner may.from } ≡ row =
@@ -235,7 +235,3 @@ row_sound w row at new sound may =
       free = fits.0;
       splits = fits.1;
     }))
-
-pub sound_split : (w : World) (row : Row) (at new : ℕ) → IsSound w → MaySplit (view w) row at new → IsSound (tablet_split w row.tablet at new)
-sound_split w row at new sound may =
-    rw (stands_found w.coordinator.rows row sound.rows.apart may.has_row) (row_sound w row at new sound may)

@@ -5,7 +5,7 @@ use Rattle.std.proofs.Common.{slice_index_or, ◌==◌, eq-eqb, ne_eqb, ◌<◌}
 use Rattle.rk_inv_base.proofs.Words.{cases_Bool, cases_eq, false≢true, or_left, or_right, All-contains, All-weaker, Contains-get_or}
 use Rattle.rk_inv_base.proofs.Words.{list_any-append, Member, Node, lineage_of, Phase, Rebuilding, Row, Body, Got, Pulled, ReadSegment}
 use Rattle.rk_inv_base.proofs.Words.{LAST_MAIN_SEGMENT, is_member, World, has_crashed, lives, PulledAgrees, GotAgrees, ReadIn, MarkFits}
-use Rattle.rk_inv_base.proofs.Words.{MarkedFit, AreApart, IsFormed, put, View, view, IsSound, SoundView, false_from_ne_true, EachIn}
+use Rattle.rk_inv_base.proofs.Words.{MarkedFit, AreApart, IsFormed, put, View, view, SoundView, false_from_ne_true, EachIn}
 use Rattle.rk_inv_tablets.proofs.Words.{put_by, put_is, put_other, if_master, MayCrashFormed, CountsFor, SaysIn}
 use Rattle.rk_world.specs.World.{with_crash}
 use Rattle.rk_inv_tablets.specs.crash.Small.{crashed}
@@ -146,7 +146,3 @@ live_now w master q = grind (arith, has_crashed, list_any-append, put_is, lives,
 
 pub crash_seen : (w : World) (master : ℕ) → view (with_crash w master) ≡ crashed (view w) master
 crash_seen w master i = record (view w) { live = λ q. live_now w master q i }
-
--- a sound lane stays sound when a master crashes
-pub sound_crashed : (w : World) (master : ℕ) → IsSound w → MayCrashFormed (view w) master → IsSound (with_crash w master)
-sound_crashed w master sound may = rw (crash_seen w master) (view_crashed (view w) master sound may)

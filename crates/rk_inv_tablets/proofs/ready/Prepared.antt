@@ -5,7 +5,7 @@ use Rattle.rk_inv_base.proofs.Words.{cases_eq, drop_all, All-contains, meets, He
 use Rattle.rk_inv_base.proofs.Words.{row_of, Phase, Row, Prepare, tablet_prepared, with_others_given_up, is_member, Master, touches}
 use Rattle.rk_inv_base.proofs.Words.{with_tablet, without_items, Tablet, with_handover, without_merged, World, log_in, master_at, tablet_in}
 use Rattle.rk_inv_base.proofs.Words.{with_master, AsksFor, Holds, bond_of, post_of, IsBare, RoleFits, HandoverFits, IsBelowOthers, View}
-use Rattle.rk_inv_base.proofs.Words.{view, IsSound, SoundView, false_from_ne_true}
+use Rattle.rk_inv_base.proofs.Words.{view, SoundView, false_from_ne_true}
 use Rattle.rk_inv_tablets.proofs.Words.{MayPrepare, same_number, stays, stood, outside_post, stands_found, as_wanting, prepared}
 use Rattle.rk_inv_tablets.proofs.Words.{prepared_tablets, tablet_prepared_in, tablet_seen}
 use Rattle.rk_inv_tablets.proofs.ready.OwnItems.{none_left}
@@ -38,7 +38,7 @@ module _ (v : View) (row : Row) (master : ℕ) (prepare : Prepare) (sound : Soun
   abbrev own : Tablet
   own = without_merged (with_handover (tablet_seen v master number) (as_wanting term range place old))
 
-  greater : old.term < term
+  pub greater : old.term < term
   greater = subst (λ (n : ℕ). (v.handovers master n).term < term) (sym may.tablet_is) may.greater
 
   -- a row of the tablet's number is the one that the order is for
@@ -166,9 +166,3 @@ module _ (w : World) (master : ℕ) (prepare : Prepare) where
 
   pub view_prepared_in : was.handover.term < prepare.tenure.term → view (tablet_prepared_in w master prepare) ≡ prepared (view w) master prepare
   view_prepared_in greater = search (view, with_master, moves, view_taken, without, master_at)
-
-pub sound_prepared : (w : World) (row : Row) (master : ℕ) (prepare : Prepare) → IsSound w → MayPrepare (view w) row master prepare → IsSound (tablet_prepared_in w master prepare)
-sound_prepared w row master prepare sound may =
-    subst SoundView
-    (sym (view_prepared_in w master prepare (greater (view w) row master prepare sound may)))
-    (view_prepared (view w) row master prepare sound may)

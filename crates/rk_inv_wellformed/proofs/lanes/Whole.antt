@@ -5,7 +5,7 @@ use Rattle.rk_inv_wellformed.proofs.Words.{coordinator_step, IsFormedRow, IsWell
 use Rattle.rk_inv_wellformed.proofs.Words.{tablet_migrated, coordinator_notice, IsMaster, MayCome, MayHappen, refusal, HasRoom, Accepts}
 use Rattle.rk_inv_wellformed.proofs.Words.{Asks, Happens, IsCalmEvent, MayOccur, after, rows_split, with_split, happened, quietly}
 use Rattle.rk_inv_wellformed.proofs.Words.{tablet_added, with_added, World, crashed_masters, has_crashed, master_at, with_coordinator}
-use Rattle.rk_inv_wellformed.proofs.Words.{Event, AllHaveRoom, Happening, IsCalm, IsCalmHappening, MayAllOccur, run, tablet_split}
+use Rattle.rk_inv_wellformed.proofs.Words.{Event, AllHaveRoom, Happening, IsCalmHappening, tablet_split}
 use Rattle.rk_inv_wellformed.proofs.Words.{IsFormedCoordinator, Limits, MayTurn, backup_step, coordinator_turn, log_bytes_of, master_step}
 use Rattle.rk_inv_wellformed.proofs.Words.{master_turn, seen_in, turned}
 use Rattle.rk_inv_wellformed.proofs.coordinator.Coordinators.{IsFormedChange, formed_coordinator_step, formed_coordinator_turn}
@@ -144,12 +144,6 @@ formed_after {w} (Asks session) may calm room after_room formed = grind (arith, 
 formed_after {w} (Accepts number session) may calm room after_room formed = grind (arith, formed_accepts)
 
 -- the first world of a run has room where each has
-first_has_room : (w : World) (list : List Happening) → AllHaveRoom w list → HasRoom w
+pub first_has_room : (w : World) (list : List Happening) → AllHaveRoom w list → HasRoom w
 first_has_room w [] room = room
 first_has_room w (happening ∷ later) room = room.0
-
--- and so in every calm run whose numbers fit
-pub formed_run : (w : World) (list : List Happening) → MayAllOccur w list → IsCalm w list → AllHaveRoom w list → IsWellFormed w → IsWellFormed (run w list)
-formed_run w [] may calm room formed = formed
-formed_run w (happening ∷ later) may calm room formed = formed_run (after w happening) later may.1 calm.1 room.1
-    (formed_after happening may.0 calm.0 room.0 (first_has_room (after w happening) later room.1) formed)

@@ -10,8 +10,8 @@ use Rattle.rk_inv_wellformed.proofs.Words.{row_split, rows_split, with_half, wit
 use Rattle.rk_inv_wellformed.proofs.Words.{log_bytes_of, losing, quietly, seen_in, tablet_added, turned, with_added, with_sends}
 use Rattle.rk_inv_wellformed.proofs.Words.{worked_at, Worked, World, crashed_masters, has_crashed, master_at, with_coordinator, with_top}
 use Rattle.rk_inv_wellformed.proofs.Words.{Event, tablet_split, is_added, with_client, seen_of, LastCall, with_wire, without_message, get}
-use Rattle.rk_inv_wellformed.proofs.Words.{sent_again, with_crash, Accepts, Asks, Happens, MayOccur, after, AllHaveRoom, Happening}
-use Rattle.rk_inv_wellformed.proofs.Words.{IsCalm, IsCalmHappening, MayAllOccur, world_stepped, stepped_by, to_coordinator}
+use Rattle.rk_inv_wellformed.proofs.Words.{sent_again, with_crash, Accepts, Asks, Happens, MayOccur, after, Happening}
+use Rattle.rk_inv_wellformed.proofs.Words.{IsCalmHappening, world_stepped, stepped_by, to_coordinator}
 use Rattle.rk_inv_wellformed.specs.Fitting.{AllLogsFit, LogsFit}
 use Rattle.rk_inv_wellformed.proofs.coordinator.Coordinators.{IsFormedChange, formed_coordinator_step, formed_tablet_migrated}
 use Rattle.rk_inv_wellformed.proofs.coordinator.Coordinators.{formed_with_row, rows_have_room, added_allowed, formed_rows_split}
@@ -31,7 +31,6 @@ use Rattle.rk_inv_wellformed.proofs.room.Rises.{KeepsTo, all_inserted, ends_in, 
 use Rattle.rk_inv_wellformed.proofs.room.Rises.{keeps_with_ledger, keeps_with_master, top_after_coordinator, top_after_sends}
 use Rattle.rk_inv_wellformed.proofs.room.Rises.{top_after_work, top_with_coordinator, top_within}
 use Rattle.rk_inv_wellformed.proofs.lanes.Happenings.{formed_accepts, formed_asks}
-use Rattle.rk_inv_wellformed.proofs.lanes.Whole.{formed_after}
 
 -- where what stands keeps to the greatest number, that stays
 top_stays : (w : World) {after : World} → KeepsTo w.top after → HasRoom w → (with_top after).top < MOST_NUMBER
@@ -215,11 +214,11 @@ room_event w event called may come calm none formed room = go event may none
         top_stays w keeps room
     go (Event.Notice master) may none = noticed_fits (low (Event.Notice master) refl none) master (crash_came w master none)
 
-first_logs_fit : (w : World) (list : List Happening) → AllLogsFit w list → LogsFit w
+pub first_logs_fit : (w : World) (list : List Happening) → AllLogsFit w list → LogsFit w
 first_logs_fit w [] fits = fits
 first_logs_fit w (happening ∷ later) fits = fits.0
 
-with_number : {w : World} → w.top < MOST_NUMBER → LogsFit w → HasRoom w
+pub with_number : {w : World} → w.top < MOST_NUMBER → LogsFit w → HasRoom w
 with_number number fits = assumption
 
 -- whatever happens, the numbers of a lane fit after it
@@ -228,12 +227,3 @@ number_after {w} (Happens event called) may calm formed room =
     grind (arith, by_found, world_stepped, stepped_by, refusal, room_event, may.0, may.1, room.number)
 number_after {w} (Asks session) may calm formed room = (formed_asks w session may (record { formed = formed; room = room })).room.number
 number_after {w} (Accepts number session) may calm formed room = grind (arith, formed_accepts)
-
--- each world of a calm run has room where its logs fit
-pub room_run : (w : World) (list : List Happening) → MayAllOccur w list → IsCalm w list → IsWellFormed w → w.top < MOST_NUMBER → AllLogsFit w list → AllHaveRoom w list
-room_run w [] may calm formed number fits = with_number number fits
-room_run w (happening ∷ later) may calm formed number fits =
-    let room = with_number number fits.0 in
-    let number_left = number_after happening may.0 calm.0 formed room in
-    let room_left = with_number number_left (first_logs_fit (after w happening) later fits.1) in
-    (room, room_run (after w happening) later may.1 calm.1 (formed_after happening may.0 calm.0 room room_left formed) number_left fits.1)
