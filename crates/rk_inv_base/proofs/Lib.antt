@@ -1,5 +1,5 @@
-pub mod Headlines
 pub mod Words
+pub mod Headlines
 pub mod Base
 pub mod views
 pub mod logs

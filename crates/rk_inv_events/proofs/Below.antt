@@ -10,8 +10,7 @@ pub use Rattle.rk_inv_tablets.proofs.crash.MergeTells.{IsToldBy, all_stand_told,
 pub use Rattle.rk_inv_tablets.proofs.crash.ReadTold.{AreMarksTold, counted_told, side_material, stands_there}
 pub use Rattle.rk_inv_tablets.proofs.crash.Unmarked.{first_among, free_place}
 pub use Rattle.rk_inv_tablets.proofs.merge.Heirs.{gathers_from}
-pub use Rattle.rk_inv_tablets.proofs.Headlines.{sealed_accepted, sealed_asked, sealed_event, sealed_new}
-pub use Rattle.rk_inv_tablets.proofs.steady.Lanes.{tell_accepted, tell_asked}
+pub use Rattle.rk_inv_tablets.proofs.steady.Lanes.{sealed_accepted, sealed_asked, sealed_event, sealed_new, tell_accepted, tell_asked}
 pub use Rattle.rk_inv_tablets.proofs.steady.Lanes.{tell_event, tell_new}
 pub use Rattle.rk_inv_tablets.proofs.steady.Walks.{IsKept, Part, accept_keeps, ask_keeps, event_keeps}
 pub use Rattle.rk_inv_tablets.specs.merge.Small.{own_entries}

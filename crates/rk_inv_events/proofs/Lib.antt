@@ -1,5 +1,5 @@
-pub mod Headlines
 pub mod Words
+pub mod Headlines
 pub mod events
 pub mod turn
 pub mod reports

@@ -1,5 +1,5 @@
-pub mod Headlines
 pub mod Words
+pub mod Headlines
 pub mod grow
 pub mod ready
 pub mod grant

@@ -1,5 +1,5 @@
-pub mod Headlines
 pub mod Words
+pub mod Headlines
 pub mod maps
 pub mod masters
 pub mod bytes

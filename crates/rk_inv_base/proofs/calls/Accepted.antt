@@ -3,9 +3,8 @@ use Rattle.rk_inv_base.proofs.Words.{◌≡◌, ℕ, true, List, ◌++◌, Optio
 use Rattle.rk_inv_base.proofs.Words.{slice_set, IfSome, Contains, All-weaker, slice_get-get_or, slice_get_within, get_or_from_slice_get}
 use Rattle.rk_inv_base.proofs.Words.{hash_of, Call, Ended, Placed, Range, is_mutation, lane_of_key, AreOneMutation, Entry, is_covered}
 use Rattle.rk_inv_base.proofs.Words.{Reply, Request, base_map, ends_told, told, accepted_at, as_accepted, of_key, IsAfterStart, has_key}
-use Rattle.rk_inv_base.proofs.Words.{LastCall, AreOneAccepted, IsAccepted, RequestFits, WasAsked, IsKnown, IsReached, IsRecorded}
-use Rattle.rk_inv_base.proofs.Words.{ReachAll, TellAll, is_record_in, MayAccept, IsAfterSeen, View, AskedOf, SoundView}
-use Rattle.rk_inv_base.proofs.Words.{IsRecordAt, Outcome, accepted}
+use Rattle.rk_inv_base.proofs.Words.{LastCall, AreOneAccepted, IsAccepted, RequestFits, WasAsked, IsKnown, IsReached, IsRecorded, ReachAll}
+use Rattle.rk_inv_base.proofs.Words.{TellAll, is_record_in, MayAccept, IsAfterSeen, View, AskedOf, SoundView, IsRecordAt, Outcome, accepted}
 use Rattle.rk_inv_base.proofs.calls.OtherJournals.{asked_by_other, is_request_by, request_by_other, request_says_by, says_by}
 use Rattle.rk_inv_base.proofs.calls.Journals.{view_with_journal}
 use Rattle.rk_inv_base.proofs.calls.SameRecords.{AreSameRecords, IsSameRecord, accepted_cases, accepted_same, all_records_same}

@@ -9,7 +9,6 @@ use Rattle.rk_inv_base.proofs.Words.{IsEntryWithin, IsOfWholeRows, AreAbove, pos
 use Rattle.rk_inv_base.proofs.Words.{IsRest, MembersFit, FirstIsDone, EachHasCall, IsLast, Waits, MayAppend, with_counter, with_one_more}
 use Rattle.rk_inv_base.proofs.Words.{View, truths, rests, SoundView, All-contains, AreApart, is_granted, is_marked, last_of, lineage_truth}
 use Rattle.rk_inv_base.proofs.Words.{may_have_staged, member_truth, put, false_from_ne_true, is_of, IsAboveAll, slice_get_end, appended}
-use Rattle.rk_entry.specs.declared.entry.Entry.TheVariants as entries
 use Rattle.rk_inv_base.proofs.Base.{none_stored, counts_call, joins_call, marked_none, names_call, segments_call, touches_call, in_one_row}
 use Rattle.rk_inv_base.proofs.Base.{no_meeting, speaker_of, speaker_is, speaks_serving, none_waits, none_hands, CountsFor, SoundRow}
 use Rattle.rk_inv_base.proofs.Base.{SpeaksFor, row_in, covered_by, put_by, put2_by, counted_looks, first_not_last, formed_apart}

@@ -1,6 +1,6 @@
--- A lane stays sound when a client comes that has asked nothing: nothing is seen of it.
-use Rattle.rk_inv_base.proofs.Words.{arith, ◌≡◌, ℕ, None, unwrap_or, cases_eq, get_same, get_other, Ledger, asked_by}
-use Rattle.rk_inv_base.proofs.Words.{with_client, World, view, client_come}
+-- Nothing is seen of a client that comes and has asked nothing.
+use Rattle.rk_inv_base.proofs.Words.{arith, ◌≡◌, ℕ, None, unwrap_or, cases_eq, get_same, get_other, Ledger, asked_by, with_client, World}
+use Rattle.rk_inv_base.proofs.Words.{view, client_come}
 
 -- a client that comes has asked nothing, and had asked nothing
 pub asked_same : (ledger : Ledger) (client : ℕ) → asked_by ledger client ≡ None → (q : ℕ) → asked_by (with_client ledger client) q ≡ asked_by ledger q

@@ -1,7 +1,6 @@
 -- What is said of calls by a journal is said by another one that has an accepted record of each accepted call, and each record at its place.
-use Rattle.rk_inv_base.proofs.Words.{arith, ℕ, List, Option, Answer, Call, Outcome, Placed, Node, Reply, Request, Body, call_of, LastCall}
+use Rattle.rk_inv_base.proofs.Words.{arith, ℕ, List, Option, Call, Outcome, Placed, Node, Reply, Request, Body, call_of, LastCall}
 use Rattle.rk_inv_base.proofs.Words.{IsAccepted, IsRequest, RequestFits, RequestSays, WasAsked, IsRecordAt, Says}
-use Rattle.rk_types.specs.declared.call.Answer.TheVariants as answers
 use Rattle.rk_types.specs.declared.node.Node.TheVariants as nodes
 use Rattle.rk_message.specs.declared.message.Body.TheVariants as bodies
 

@@ -4,9 +4,9 @@ use Rattle.rk_inv_base.proofs.Words.{slice_get, IfSome, length, All, All-weaker,
 use Rattle.rk_inv_base.proofs.Words.{slice_get_within, get_or_from_slice_get, hash_of, Call, Ended, Outcome, Placed, Range, IsLegal-append}
 use Rattle.rk_inv_base.proofs.Words.{legal_back, legal_push, map_after-append, IsLegal, Map, map_after, with_change, is_mutation}
 use Rattle.rk_inv_base.proofs.Words.{lane_of_key, AreOneMutation, Entry, is_covered, base_map, told, has_record, is_of_call, is_of_mutation}
-use Rattle.rk_inv_base.proofs.Words.{next_record, of_key, IsAfterStart, LastCall, AreOneAccepted, HasSeen, WasAsked, IsReached}
-use Rattle.rk_inv_base.proofs.Words.{ReachAll, TellAll, is_record_in, IsAfterSeen, View, AskedOf, SoundView, IfSome_then}
-use Rattle.rk_inv_base.proofs.Words.{unkept_changes_nothing, MayRead, recorded}
+use Rattle.rk_inv_base.proofs.Words.{next_record, of_key, IsAfterStart, LastCall, AreOneAccepted, HasSeen, WasAsked, IsReached, ReachAll}
+use Rattle.rk_inv_base.proofs.Words.{TellAll, is_record_in, IsAfterSeen, View, AskedOf, SoundView, IfSome_then, unkept_changes_nothing}
+use Rattle.rk_inv_base.proofs.Words.{MayRead, recorded}
 use Rattle.rk_inv_base.proofs.Base.{covered_by}
 use Rattle.rk_inv_base.proofs.calls.Journals.{view_with_journal}
 use Rattle.rk_inv_base.proofs.calls.MoreRecords.{asked_still, got_cases, is_request_still, known_still, request_says_still, rising_push}

@@ -1,7 +1,7 @@
 -- A view stays sound when a refusal is staged that its master may serve and that goes on lawfully.
-use Rattle.rk_inv_base.proofs.Words.{◌≡◌, ℕ, Bool, refl, ◌∙◌, ◌++◌, All-nil, Call, Held, Row, refusal_of, World, master_at}
-use Rattle.rk_inv_base.proofs.Words.{tablet_in, MayAppend, refused_as, IsNext, View, view, truths, rests, SoundView}
-use Rattle.rk_inv_base.proofs.Words.{refusal_staged, MayRefuse, refused, refusal_staged_in}
+use Rattle.rk_inv_base.proofs.Words.{◌≡◌, ℕ, Bool, refl, ◌∙◌, ◌++◌, All-nil, Call, Held, Row, refusal_of, World, master_at, tablet_in}
+use Rattle.rk_inv_base.proofs.Words.{MayAppend, refused_as, IsNext, View, view, truths, rests, SoundView, refusal_staged, MayRefuse}
+use Rattle.rk_inv_base.proofs.Words.{refused, refusal_staged_in}
 use Rattle.rk_inv_base.proofs.Base.{put_same, put2_same, view_master, next_stays, counter_low, row_in}
 use Rattle.rk_inv_base.proofs.calls.Histories.{last_asked, refusal_goes_on}
 use Rattle.rk_inv_base.proofs.calls.CallAppended.{view_appended}

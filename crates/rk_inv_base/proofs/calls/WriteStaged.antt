@@ -1,7 +1,7 @@
 -- A view stays sound when a write is staged that its master may serve and that goes on lawfully.
-use Rattle.rk_inv_base.proofs.Words.{arith, ◌≡◌, ℕ, ◌+◌, List, [], Option, refl, ◌∙◌, ◌++◌, Call, Held, Row, counted_up}
-use Rattle.rk_inv_base.proofs.Words.{item_of, with_staged, World, master_at, tablet_in, MayAppend, IsNext, View, view, truths, rests}
-use Rattle.rk_inv_base.proofs.Words.{SoundView, write_staged, MayStage, write_staged_in}
+use Rattle.rk_inv_base.proofs.Words.{arith, ◌≡◌, ℕ, ◌+◌, List, Option, refl, ◌∙◌, ◌++◌, Call, Held, Row, counted_up, item_of}
+use Rattle.rk_inv_base.proofs.Words.{with_staged, World, master_at, tablet_in, MayAppend, IsNext, View, view, truths, rests, SoundView}
+use Rattle.rk_inv_base.proofs.Words.{write_staged, MayStage, write_staged_in}
 use Rattle.rk_entry.specs.declared.entry.Entry.TheVariants as entries
 use Rattle.rk_sound.specs.Small.{staged}
 use Rattle.rk_inv_base.proofs.Base.{put_same, put2_same, tablet_here, tablet_apart, view_master, next_push, counter_low, row_in}

@@ -5,7 +5,6 @@ use Rattle.rk_inv_base.proofs.Words.{ltb-true, and_parts, cond-false, cond_both,
 use Rattle.rk_inv_base.proofs.Words.{meets, Member, Range, Entry, number_of, Precedes, row_of, Rebuilding, Row, told, is_marked, counting}
 use Rattle.rk_inv_base.proofs.Words.{counts, has_all, Mark, HasOwnRange, IsOfRange, MarkedFit, TellNoMore, marked_entries, member_marked}
 use Rattle.rk_inv_base.proofs.Words.{View, SoundView}
-use Rattle.rk_entry.specs.declared.entry.Entry.TheVariants as entries
 use Rattle.rk_inv_base.proofs.Base.{key_outside, one_precedes, behind_at, behind_first, row_in, floor_rises}
 use Rattle.rk_inv_base.proofs.rows.Serving.{found_stands}
 

@@ -5,7 +5,6 @@ use Rattle.rk_inv_base.proofs.Words.{length-append, cases_lt, cond-true, cond-fa
 use Rattle.rk_inv_base.proofs.Words.{All-head, All-tail, Call, Held, Range, Entry, is_marked, unmarked, unmarked_from, touches, counts}
 use Rattle.rk_inv_base.proofs.Words.{counting, with_number, named, named_by, material_of, side_entries, log_material, joined_from}
 use Rattle.rk_inv_base.proofs.Words.{is_joined_in, has_key, Mark, segments_in, IsEntryOf}
-use Rattle.rk_entry.specs.declared.entry.Entry.TheVariants as entries
 
 pub append_nil : {X : Type 0} (xs : List X) → xs ++ [] ≡ xs
 append_nil xs = append-nil xs

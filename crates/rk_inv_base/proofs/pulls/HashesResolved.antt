@@ -1,9 +1,8 @@
--- A view stays sound when hashes are resolved, where all items of the source that have them have arrived.
+-- What is pulled goes on when hashes are resolved, where all items of the source that have them have arrived.
 use Rattle.rk_inv_base.proofs.Words.{◌≡◌, ℕ, Bool, true, false, cond, List, [], ◌∷◌, ◌++◌, eqb, ◌⊎◌, refl, ap, sym, subst, ◌∙◌, ⊎_elim, inl}
 use Rattle.rk_inv_base.proofs.Words.{inr, Contains, flat_map, eq-eqb, eqb-true, Contains-append_left, Contains-append_right}
 use Rattle.rk_inv_base.proofs.Words.{list_any-append, bytes_eq-Decides, Held, Member, at_hash, Row, Hashes, contains, got, is_batch}
-use Rattle.rk_inv_base.proofs.Words.{is_receiving, GoesOn, source_items, View, or_cases, item_hash}
-use Rattle.rk_inv_base.proofs.Words.{MayResolve, resolving}
+use Rattle.rk_inv_base.proofs.Words.{is_receiving, GoesOn, source_items, View, or_cases, item_hash, MayResolve, resolving}
 use Rattle.rk_inv_base.proofs.calls.Records.{filter_stands}
 
 -- the outstanding batch is just what is given, where the test says so

@@ -2,7 +2,8 @@
 -- token, the count of batches and the hashes may change; the items that were pulled stay.
 use Rattle.rk_inv_base.proofs.Words.{arith, ◌≡◌, ℕ, [], ◌∷◌, sym, ap, ◌∙◌, subst, ⊎_elim, inl, inr, get, Token, Member, passed, lineage_of}
 use Rattle.rk_inv_base.proofs.Words.{Row, Hashes, contains, Pulling, GoesOn, IsPulling, source_items, View, SoundView, item_hash, MayGoOn}
-use Rattle.rk_inv_base.proofs.Words.{gone_on, pulled}
+use Rattle.rk_inv_base.proofs.Words.{gone_on, pulled, List, refl, cond_both, false≢true, wanting, batched_by, is_receiving, is_joining}
+use Rattle.rk_inv_base.proofs.Words.{MayPass, passing}
 use Rattle.rk_inv_base.proofs.Base.{same_number, put2_by, IsTargetIn}
 use Rattle.rk_inv_base.proofs.views.WithRecords.{view_with_pullings}
 
@@ -71,3 +72,16 @@ of_one_row v row source target change sound pulls goes other first last has at i
     let target_is : target ≡ last = cc in
     rw same (subst (λ (m : Member). GoesOn v row m last (change (v.pullings last.master row.tablet))) source_is
     (subst (λ (m : Member). GoesOn v row source m (change (v.pullings m.master row.tablet))) target_is goes))
+
+-- a hash that is wanted resolves none
+pub wanting_resolves : (hashes : Hashes) (hash : ℕ) → (wanting hashes hash).resolved ≡ hashes.resolved
+wanting_resolves hashes hash = grind (arith, cond_both)
+
+-- nor does a batch that is asked for
+pub batch_resolves : (hashes : Hashes) (batch : List ℕ) → (batched_by hashes batch).resolved ≡ hashes.resolved
+batch_resolves hashes [] = refl
+batch_resolves hashes (hash ∷ more) = refl
+
+-- what is pulled goes on by a token that the target may pass on to
+pub passes_on : (v : View) (row : Row) (source target : Member) (next : Token) → MayPass v row source target next → GoesOn v row source target (passing next (v.pullings target.master row.tablet))
+passes_on v row source target next may = grind (arith, false≢true, is_joining, is_receiving)

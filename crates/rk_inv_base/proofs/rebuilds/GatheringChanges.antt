@@ -1,8 +1,7 @@
 -- A view stays sound when what is gathered for a tablet goes on: it is still that of the row, and what was read of each segment is a
 -- first part that holds what its master knew to be stored, and what is needed.
-use Rattle.rk_inv_base.proofs.Words.{arith, ◌≡◌, ℕ, List, subst, Member, Role, Rebuilding, Row, Gather, own_place, member_material}
+use Rattle.rk_inv_base.proofs.Words.{arith, ◌≡◌, ℕ, List, subst, Member, Rebuilding, Row, Gather, own_place, member_material}
 use Rattle.rk_inv_base.proofs.Words.{merged_place, View, SoundView, GathersOn, MayGatherOn, gathered}
-use Rattle.rk_transfer.specs.declared.role.Role.TheVariants as roles
 use Rattle.rk_inv_base.proofs.Base.{put2_by}
 use Rattle.rk_inv_base.proofs.views.WithRecords.{RebuildsBy, view_with_gathers}
 

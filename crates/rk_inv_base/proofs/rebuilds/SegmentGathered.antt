@@ -1,13 +1,12 @@
--- A lane stays sound when a rebuild gathers the segment that it awaits, where what was read is a first part of what is stored that
--- holds all that its master knew to be stored, and all that is needed.
-use Rattle.rk_inv_base.proofs.Words.{◌≡◌, ℕ, ◌<◌, ◌≤◌, Bool, true, false, List, [], ◌∷◌, ◌++◌, length, refl, sym, ap, ◌∙◌, subst, ⊎_elim}
+-- A rebuild may go on when it gathers the segment that it awaits, where what was read is a first part of what is stored that holds all
+-- that its master knew to be stored, and all that is needed.
+use Rattle.rk_inv_base.proofs.Words.{◌≡◌, ℕ, ◌<◌, ◌≤◌, Bool, true, false, List, [], ◌∷◌, ◌++◌, length, refl, sym, ap, ◌∙◌, subst}
 use Rattle.rk_inv_base.proofs.Words.{arith, not, ◌==◌, Contains, ltb-true, lt-ltb, length-append, cases_lt, or_right, get_or_past}
 use Rattle.rk_inv_base.proofs.Words.{All-weaker, Member, Entry, FIRST_SIDE_SEGMENT, Phase, Rebuilding, Row, Known, known_length, nothing}
-use Rattle.rk_inv_base.proofs.Words.{IsBackup, Log, bytes_of, known_of, EntryEnd, CopySegment, Gather, is_member, names, IsMaster}
-use Rattle.rk_inv_base.proofs.Words.{Written, member_material, Mark, IsCopy, is_main, stored_of, IsGathered, IsReadPart, MarkFits}
-use Rattle.rk_inv_base.proofs.Words.{MarkedFit, NeededOf, READ_BACKUP, member_given_up, member_marked, member_stored, stored_count}
-use Rattle.rk_inv_base.proofs.Words.{IsFormed, View, SoundView, with_segment, IsGatherOf, GathersOn}
-use Rattle.rk_inv_base.proofs.Words.{MayGather, MayGatherOn, reading}
+use Rattle.rk_inv_base.proofs.Words.{IsBackup, Log, bytes_of, known_of, EntryEnd, CopySegment, Gather, is_member, names, IsMaster, Written}
+use Rattle.rk_inv_base.proofs.Words.{member_material, Mark, IsCopy, is_main, stored_of, IsGathered, IsReadPart, MarkFits, MarkedFit}
+use Rattle.rk_inv_base.proofs.Words.{NeededOf, READ_BACKUP, member_given_up, member_marked, member_stored, stored_count, IsFormed, View}
+use Rattle.rk_inv_base.proofs.Words.{SoundView, with_segment, IsGatherOf, GathersOn, MayGather, MayGatherOn, reading}
 use Rattle.rk_outside.specs.Segments.{bytes_of as read_bytes}
 use Rattle.rk_inv_base.proofs.Base.{NeedsFew, NoneBehind, members_read, read_apart, same_member, same_members, segment_read, same_number}
 use Rattle.rk_inv_base.proofs.Base.{AreAmong, IsStoredEnd, among_then, end_stored, given_up_among, living_among, needed_member}

@@ -1,8 +1,8 @@
--- A lane stays sound when a source closes a tablet at a greater term, as its row asks it to, or where it is to rebuild the tablet that
--- was its alone.
-use Rattle.rk_inv_base.proofs.Words.{◌⊎◌, ◌≡◌, ℕ, ◌<◌, ◌≤◌, true, List, [], ◌∷◌, arith, Member, role_closed, Handover, Role}
-use Rattle.rk_inv_base.proofs.Words.{lineage_of, Phase, Row, is_member, IsClosing, IsOnlyRebuilder, IsOwner, MayTakeRole}
-use Rattle.rk_inv_base.proofs.Words.{Post, post_of, bond_of, Holds, speaks, View, SoundView, MayClose, as_closing}
+-- A source may take the role in which it closes a tablet at a greater term, as its row asks it to, or where it is to rebuild the tablet
+-- that was its alone.
+use Rattle.rk_inv_base.proofs.Words.{◌⊎◌, ◌≡◌, ℕ, ◌<◌, ◌≤◌, true, List, [], ◌∷◌, arith, Member, role_closed, Handover, lineage_of}
+use Rattle.rk_inv_base.proofs.Words.{Phase, Row, is_member, IsClosing, IsOnlyRebuilder, IsOwner, MayTakeRole, Post, post_of, bond_of, Holds}
+use Rattle.rk_inv_base.proofs.Words.{speaks, View, SoundView, MayClose, as_closing}
 use Rattle.rk_transfer.specs.declared.role.Role.TheVariants as roles
 use Rattle.rk_inv_base.proofs.Base.{row_in}
 

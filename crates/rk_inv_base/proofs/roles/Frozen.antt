@@ -1,7 +1,6 @@
 -- A lane stays sound when a tablet freezes of which nothing is left to be applied.
-use Rattle.rk_inv_base.proofs.Words.{◌≡◌, ℕ, sym, subst, arith, Contains, Handover, Role, Row, is_absent, World, is_wanting}
-use Rattle.rk_inv_base.proofs.Words.{MayTakeRole, post_of, bond_of, Holds, as_frozen, View, view, IsSound, SoundView, MayFreeze}
-use Rattle.rk_inv_base.proofs.Words.{tablet_frozen_in}
+use Rattle.rk_inv_base.proofs.Words.{◌≡◌, ℕ, sym, subst, arith, Contains, Handover, Row, is_absent, World, is_wanting, MayTakeRole}
+use Rattle.rk_inv_base.proofs.Words.{post_of, bond_of, Holds, as_frozen, View, view, IsSound, SoundView, MayFreeze, tablet_frozen_in}
 use Rattle.rk_transfer.specs.declared.role.Role.TheVariants as roles
 use Rattle.rk_inv_base.proofs.Base.{alike_frozen, speaks_alike, inside_member, view_role_taken, view_taken, row_in, at_most}
 

@@ -1,10 +1,10 @@
 -- A lane stays sound when a master that is not of the lineage gives a frozen tablet up, and drops its items.
-use Rattle.rk_inv_base.proofs.Words.{◌≡◌, ℕ, true, false, List, [], refl, ap, ◌∙◌, inl, arith, drop, false≢true, list_any, ⊤}
-use Rattle.rk_inv_base.proofs.Words.{Member, Handover, Role, lineage_of, Phase, Row, no_gather, is_member, Master, tablet_at, touches}
+use Rattle.rk_inv_base.proofs.Words.{◌≡◌, ℕ, false, List, [], refl, ap, ◌∙◌, inl, arith, drop, false≢true, list_any, ⊤, Member}
+use Rattle.rk_inv_base.proofs.Words.{Handover, lineage_of, Phase, Row, no_gather, is_member, Master, tablet_at, touches}
 use Rattle.rk_inv_base.proofs.Words.{without_items, is_idle, Tablet, with_handover, without_merged, World, master_at, tablet_in, is_wanting}
 use Rattle.rk_inv_base.proofs.Words.{MayRelease, MayTakeRole, Post, InvitedTarget, ReadyTarget, OutsideRebuilder, Bystander, rebuilder_post}
-use Rattle.rk_inv_base.proofs.Words.{post_of, bond_of, Holds, speaks, role_taken, View, view, SoundView, tablet_released}
-use Rattle.rk_inv_base.proofs.Words.{as_released, items_dropped, tablet_released_in}
+use Rattle.rk_inv_base.proofs.Words.{post_of, bond_of, Holds, speaks, role_taken, View, view, SoundView, tablet_released, as_released}
+use Rattle.rk_inv_base.proofs.Words.{items_dropped, tablet_released_in}
 use Rattle.rk_transfer.specs.declared.role.Role.TheVariants as roles
 use Rattle.rk_inv_base.proofs.Base.{tablet_apart, tablet_here, put_same, put2_same, view_role_taken, view_master, row_in, inside_heir}
 use Rattle.rk_inv_base.proofs.Base.{inside_member, at_most}

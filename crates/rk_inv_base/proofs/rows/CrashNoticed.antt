@@ -5,11 +5,11 @@ use Rattle.rk_inv_base.proofs.Words.{refl, sym, ap, subst, ◌∙◌, ⊎_elim, 
 use Rattle.rk_inv_base.proofs.Words.{find, unwrap_or, cond-false, cond-true, false≢true, or_cases, or_left, or_right, All-contains}
 use Rattle.rk_inv_base.proofs.Words.{All-from_recursion, All-head, All-map, All-push, All-tail, Contains-append_right, list_any_at}
 use Rattle.rk_inv_base.proofs.Words.{list_any_none, Member, lineage_of, IsTabletMap, Precedes, replaced, Phase, Owned, Opening, Moving}
-use Rattle.rk_inv_base.proofs.Words.{Rebuilding, Row, Coordinator, is_noticed, is_member, names, phase_noticed, row_noticed, IsMaster}
-use Rattle.rk_inv_base.proofs.Words.{Mark, IsOnlyRebuilder, IsRebuiltBy, MayTakePost, MayTurn, row_at, post_of, StillCounts}
-use Rattle.rk_inv_base.proofs.Words.{MarkFits, MarkedFit, RowIsRebuilt, View, truths, SoundView, cond_both, range_with_len}
-use Rattle.rk_inv_base.proofs.Words.{or_parts, Handover, Post, OutsideRebuilder, FormerMember, Bystander, rebuilder_post, bond_of, Holds}
-use Rattle.rk_inv_base.proofs.Words.{lowest_left, next_rebuilder, MayFollowClose, MayNotice, OpensOn}
+use Rattle.rk_inv_base.proofs.Words.{Rebuilding, Row, Coordinator, is_noticed, is_member, names, phase_noticed, row_noticed, IsMaster, Mark}
+use Rattle.rk_inv_base.proofs.Words.{IsOnlyRebuilder, IsRebuiltBy, MayTakePost, MayTurn, row_at, post_of, StillCounts, MarkFits, MarkedFit}
+use Rattle.rk_inv_base.proofs.Words.{RowIsRebuilt, View, truths, SoundView, cond_both, range_with_len, or_parts, Handover, Post}
+use Rattle.rk_inv_base.proofs.Words.{OutsideRebuilder, FormerMember, Bystander, rebuilder_post, bond_of, Holds, lowest_left, next_rebuilder}
+use Rattle.rk_inv_base.proofs.Words.{MayFollowClose, MayNotice, OpensOn}
 use Rattle.rk_inv_base.proofs.Base.{at_most, all_by, SoundRow, row_in, IsRebuiltIn, formed_apart}
 use Rattle.rk_inv_base.proofs.logs.MarkedApart.{marked_fit}
 use Rattle.rk_inv_base.proofs.rows.RowTurned.{view_turned}
@@ -221,7 +221,7 @@ module _ (v : View) (dead : ℕ) (sound : SoundView v) (may : MayNotice v dead) 
   lowest =
       let left = sound.nodes.left dead may.crashed in lowest_there coordinator left.master left.there (unnoticed left.master left.lives)
 
-  pub view_marked : SoundView (now v.rows)
+  view_marked : SoundView (now v.rows)
   view_marked = assumption all_crashed
 
   -- ---- who takes a row over
@@ -286,7 +286,7 @@ module _ (v : View) (dead : ℕ) (sound : SoundView v) (may : MayNotice v dead) 
       (replaced_there before after row (row_at row (row.term + 1) phase) was.rows.apart)
       (view_turned (now (before ++ row ∷ after)) row (row.term + 1) phase was turns)
 
-  pub each : (before after : List Row) → All (λ row. row.range.first ≤ row.range.last) after → SoundView (now (before ++ after)) → SoundView (now (before ++ map noticed_row after))
+  each : (before after : List Row) → All (λ row. row.range.first ≤ row.range.last) after → SoundView (now (before ++ after)) → SoundView (now (before ++ map noticed_row after))
   each before [] some was = was
   each before (row ∷ after) some was =
       let HasRange : Row → Type 0 = λ r. r.range.first ≤ r.range.last in
@@ -295,3 +295,6 @@ module _ (v : View) (dead : ℕ) (sound : SoundView v) (may : MayNotice v dead) 
       subst (λ (rows : List Row). SoundView (now rows)) (one_further before (map noticed_row after) (noticed_row row))
       (each (before ++ noticed_row row ∷ []) after (All-tail HasRange row after some)
       (subst (λ (rows : List Row). SoundView (now rows)) (sym (one_further before after (noticed_row row))) turned))
+
+  pub view_noticed : SoundView (now (map noticed_row v.rows))
+  view_noticed = each [] v.rows may.ranges view_marked

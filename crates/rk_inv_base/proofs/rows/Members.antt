@@ -1,5 +1,5 @@
 -- Posts of the members of a lineage: whoever has one is a member, and so whoever is none has another.
-use Rattle.rk_inv_base.proofs.Words.{arith, ◌≡◌, ℕ, Bool, true, false, cond, ◌||◌, ◌==◌, List, [], Option, refl, false≢true, Member}
+use Rattle.rk_inv_base.proofs.Words.{arith, ◌≡◌, ℕ, Bool, true, false, cond, ◌||◌, ◌==◌, List, Option, refl, false≢true, Member}
 use Rattle.rk_inv_base.proofs.Words.{lineage_of, Phase, Owned, Opening, Moving, Rebuilding, is_member, Post, Bystander, InvitedTarget}
 use Rattle.rk_inv_base.proofs.Words.{OutsideRebuilder, Owner, ReadyTarget, post_of, rebuilder_post, target_post}
 

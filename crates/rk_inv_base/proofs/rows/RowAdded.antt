@@ -10,11 +10,11 @@ use Rattle.rk_inv_base.proofs.Words.{IsMaster, has_all, has_key, is_absent, may_
 use Rattle.rk_inv_base.proofs.Words.{with_master, member_truth, applied_entries, Mark, IsKnown, IsReached, IsStagedEnd, is_record_in}
 use Rattle.rk_inv_base.proofs.Words.{HasWholeRows, IsEntryWithin, IsItemWithin, IsOfWholeRows, IsWithinRows, HasSome, AreAbove, Bystander}
 use Rattle.rk_inv_base.proofs.Words.{Owner, Post, Holds, bond_of, post_of, speaks, HasOwnRange, MarkFits, IsPlaced, put2, IsTableOf}
-use Rattle.rk_inv_base.proofs.Words.{HandoverFits, SentFits, range_in, tenure_in, View, view, truths, rests, SoundView, CoverOf}
-use Rattle.rk_inv_base.proofs.Words.{get, false_from_ne_true, is_of_parts, All-take, or_right, lawful_placed, meets_any, newest_entry}
-use Rattle.rk_inv_base.proofs.Words.{HasSomeIn, MayAdd, added, as_added, true_from_ne_false}
+use Rattle.rk_inv_base.proofs.Words.{HandoverFits, SentFits, range_in, tenure_in, View, view, truths, rests, SoundView, CoverOf, get}
+use Rattle.rk_inv_base.proofs.Words.{false_from_ne_true, is_of_parts, All-take, or_right, lawful_placed, meets_any, newest_entry, HasSomeIn}
+use Rattle.rk_inv_base.proofs.Words.{MayAdd, added, as_added, true_from_ne_false}
 use Rattle.rk_transfer.specs.declared.role.Role.TheVariants as roles
-use Rattle.rk_inv_base.proofs.Base.{row_in, IsNextOf, SoundBeside, SoundRow, none_for_owned, waits_for, staged_as, row_kept}
+use Rattle.rk_inv_base.proofs.Base.{row_in, IsNextOf, SoundBeside, SoundRow, none_for_owned, view_by_rows, waits_for, staged_as, row_kept}
 use Rattle.rk_inv_base.proofs.Base.{seen_at, covered_by, all_by, none_pass, put2_by, put2_here, put2_other, put2_same, IsBareOf}
 use Rattle.rk_inv_base.proofs.Base.{stands_found, view_kept}
 use Rattle.rk_inv_base.proofs.rows.AddedRows.{all_with, covered_still, known_placed, new_placed, stands_placed, uncovered}
@@ -270,7 +270,7 @@ module _ (v : View) (tablet : ℕ) (range : Range) (master : ℕ) (sound : Sound
 
   -- ---- the whole
 
-  pub holds : SoundRow now row
+  holds : SoundRow now row
   holds = record {
     named = λ q is. subst (IsMaster v.masters) (eqb-true master q is) may.there;
     begun = omega arith;
@@ -320,7 +320,7 @@ module _ (v : View) (tablet : ℕ) (range : Range) (master : ℕ) (sound : Sound
   waits : (q n : ℕ) (call : Call) → Waits v.rows (v.handovers q) (v.written q) q n call → Waits now.rows (now.handovers q) (v.written q) q n call
   waits q n call wait = grind (arith, waits_for, stands_placed, may_have_staged, apart, other)
 
-  pub beside_rows : SoundBeside now
+  beside_rows : SoundBeside now
   beside_rows =
       assumption (
         lawful_placed row v.rows sound.rows.apart (record { unknown = free.0; apart = free.1 }),
@@ -343,11 +343,14 @@ module _ (v : View) (tablet : ℕ) (range : Range) (master : ℕ) (sound : Sound
       )
 
   -- of each other row masters have what they had
-  pub row_on : (x : Row) → Contains v.rows x → SoundRow now x
+  row_on : (x : Row) → Contains v.rows x → SoundRow now x
   row_on x has =
       row_kept v now x (λ seen. refl)
       (λ q i. record (seen_at v x.tablet q) { handover = sym (apart q x.tablet (other x has)) i })
       (row_in v sound x has)
+
+  pub view_added : SoundView now
+  view_added = view_by_rows now beside_rows (all_with (SoundRow now) (new_row tablet range master) v.rows holds row_on)
 
 pub view_served : (w : World) (tablet : ℕ) (range : Range) (master : ℕ) → view (with_master w master (with_added (master_at w master) tablet range)) ≡ record (view w) { handovers = put2 (view w).handovers master tablet (as_added range) }
 view_served w tablet range master =

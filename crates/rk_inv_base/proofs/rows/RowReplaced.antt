@@ -1,13 +1,12 @@
 -- A view stays sound when a row is replaced by another one of its number and range, of which all holds that is said of rows, and what is
 -- noted of its tablet may change with it.
-use Rattle.rk_inv_base.proofs.Words.{arith, ◌≡◌, ℕ, true, List, [], Some, refl, sym, ap, subst, ◌∙◌, ⊎_elim, ◌⊎◌, IfSome, is_some, Contains}
+use Rattle.rk_inv_base.proofs.Words.{arith, ◌≡◌, ℕ, true, List, Some, refl, sym, ap, subst, ◌∙◌, ⊎_elim, ◌⊎◌, IfSome, is_some, Contains}
 use Rattle.rk_inv_base.proofs.Words.{flat_map, slice_index_or, All, ◌<◌, length, false, All-weaker, IfSome_then, hash_of, NumberMap, get}
 use Rattle.rk_inv_base.proofs.Words.{meets, Call, Ended, Held, Node, Range, Entry, ends_of, lawful_turned, lineage_of, is_covered, replaced}
 use Rattle.rk_inv_base.proofs.Words.{row_of, Phase, Row, Body, Handed, last_of, second_of, has_all, has_key, may_have_staged, member_truth}
 use Rattle.rk_inv_base.proofs.Words.{IsKnown, IsStagedEnd, HasWholeRows, IsEntryWithin, IsItemWithin, IsOfWholeRows, IsWithinRows}
 use Rattle.rk_inv_base.proofs.Words.{beginning_in, handed_for_grant, is_waiting, second_has, target_truth, IsRebuiltBy, row_at, Waits}
 use Rattle.rk_inv_base.proofs.Words.{HandoverFits, tenure_in, range_in, View, rests, SoundView, CoverOf, EachIn, Placed, is_absent}
-use Rattle.rk_entry.specs.declared.entry.Entry.TheVariants as entries
 use Rattle.rk_inv_base.proofs.Base.{SaysIn, SoundRow, SoundBeside, each_row, view_by_rows, waits_for, staged_as, all_turned, covered_turned}
 use Rattle.rk_inv_base.proofs.Base.{known_turned, new_stands, none_known, stands_found, stands_still}
 use Rattle.rk_inv_base.proofs.rows.OtherRows.{all_others}

@@ -1,5 +1,5 @@
 -- What messages say of a row, and hand over for it, where that is turned.
-use Rattle.rk_inv_base.proofs.Words.{◌≡◌, ℕ, cond, eqb, List, [], Option, sym, ap, subst, IfSome, eq-eqb, eqb-true, arith, and_from}
+use Rattle.rk_inv_base.proofs.Words.{◌≡◌, ℕ, cond, eqb, List, Option, sym, ap, subst, IfSome, eq-eqb, eqb-true, arith, and_from}
 use Rattle.rk_inv_base.proofs.Words.{and_parts, cond-true, cond_both, get, Member, Node, Handover, lineage_of, Phase, Row, Grant, Prepare}
 use Rattle.rk_inv_base.proofs.Words.{Tenure, Transfer, Body, Got, Pulled, Rebuild, Handed, told, is_member, second_of, handed_by}
 use Rattle.rk_inv_base.proofs.Words.{handed_for_grant, is_opening, is_waiting, is_waiting_at, second_has, IsOf, IsOfTarget, PrepareFits}

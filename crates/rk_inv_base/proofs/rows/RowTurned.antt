@@ -1,5 +1,5 @@
 -- A view stays sound when a row is turned: it is at another phase of the same lineage, at a greater term, or opens and goes on to open.
-use Rattle.rk_inv_base.proofs.Words.{◌≡◌, ℕ, ◌≤◌, true, List, [], ◌∷◌, Option, sym, ap, subst, ⊎_elim, arith, inl, All, IfSome, ◌++◌}
+use Rattle.rk_inv_base.proofs.Words.{◌≡◌, ℕ, ◌≤◌, true, List, [], ◌∷◌, Option, sym, ap, subst, arith, inl, All, IfSome, ◌++◌}
 use Rattle.rk_inv_base.proofs.Words.{Member, map_after, Entry, lineage_of, changed_rows, Phase, Row, Body, base_map, Handed, items_of, told}
 use Rattle.rk_inv_base.proofs.Words.{first_of, is_member, last_of, lineage_rest, lineage_truth, member_truth, AreHandedOver, handed_by}
 use Rattle.rk_inv_base.proofs.Words.{handed_for_grant, IsKnown, TellAll, AreAboveMap, IsNext, MayTurn, row_at, AreAbove, StillCounts}

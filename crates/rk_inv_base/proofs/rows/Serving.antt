@@ -45,7 +45,3 @@ of_its_row v P roles_fit q number lives there each = grind (arith, row_of, is_so
 pub serves_for : (v : View) (row : Row) (master tablet : ℕ) → RowsOf v → RolesOf v → Contains v.rows row → v.live master ≡ true → is_serving (v.handovers master tablet).role ≡ true → meets (v.handovers master tablet).range row.range ≡ true → (tablet ≡ row.tablet) × (master ≡ speaker_of row.phase)
 serves_for v row master tablet rows_fit roles_fit stands lives serves met =
     grind (arith, found_stands, number_of, speaker_is, speaks_serving, inside_member, serves_inside, one_met)
-
--- so two living masters that answer calls for a range of one row are one, for one tablet
-pub one_serves : (v : View) (row : Row) (a b i j : ℕ) → RowsOf v → RolesOf v → Contains v.rows row → v.live a ≡ true → v.live b ≡ true → is_serving (v.handovers a i).role ≡ true → is_serving (v.handovers b j).role ≡ true → meets (v.handovers a i).range row.range ≡ true → meets (v.handovers b j).range row.range ≡ true → (a ≡ b) × (i ≡ j)
-one_serves v row a b i j rows_fit roles_fit stands live_a live_b serves_a serves_b met_a met_b = grind (arith, serves_for)

@@ -1,12 +1,11 @@
 -- Who answers calls of a row: one living master at most, and while it does, no grant is awaited and no Transfer counts.
-use Rattle.rk_inv_base.proofs.Words.{arith, ◌≡◌, ℕ, Bool, true, false, ltb, eqb, List, [], Option, Some, None, refl, subst, ne_eqb}
+use Rattle.rk_inv_base.proofs.Words.{arith, ◌≡◌, ℕ, Bool, true, false, ltb, eqb, List, Option, Some, None, refl, subst, ne_eqb}
 use Rattle.rk_inv_base.proofs.Words.{eqb-true, cases_eq, cond-false, cond_both, or_left, and_left, and_right, ⊤, NumberMap, Ended, Member}
 use Rattle.rk_inv_base.proofs.Words.{Node, Segments, Completions, is_serving, Handover, Role, lineage_of, Phase, Owned, Opening, Moving}
 use Rattle.rk_inv_base.proofs.Words.{Rebuilding, Row, Log, Transfer, Body, Handed, is_member, second_of, last_of, is_rebuilding, Written}
 use Rattle.rk_inv_base.proofs.Words.{is_wanting, second_has, is_waiting, is_waiting_at, handed_by, SaysOf, Post, InvitedTarget, ReadyTarget}
 use Rattle.rk_inv_base.proofs.Words.{MovingSource, FormerMember, Bystander, target_post, rebuilder_post, post_of, bond_of, Holds, speaks}
 use Rattle.rk_inv_base.proofs.Words.{RoleFits, IsFormed}
-use Rattle.rk_transfer.specs.declared.role.Role.TheVariants as roles
 use Rattle.rk_message.specs.declared.message.Body.TheVariants as bodies
 
 -- a master that serves speaks, whatever its post

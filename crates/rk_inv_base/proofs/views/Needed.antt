@@ -1,6 +1,6 @@
 -- What has to be read of the last of two members, beside what its master knew to be stored: it is no more once a write was staged, and
 -- backup 1 stores it.
-use Rattle.rk_inv_base.proofs.Words.{◌≡◌, ℕ, zero, suc, ◌+◌, ◌-◌, ◌<◌, ◌≤◌, ◌⊎◌, Bool, true, false, cond, ◌||◌, List, [], ◌∷◌, ◌++◌, length}
+use Rattle.rk_inv_base.proofs.Words.{◌≡◌, ℕ, zero, suc, ◌+◌, ◌<◌, ◌≤◌, ◌⊎◌, Bool, true, false, cond, ◌||◌, List, [], ◌∷◌, ◌++◌, length}
 use Rattle.rk_inv_base.proofs.Words.{map, filter, fold, Some, refl, sym, ap, ◌∙◌, subst, ⊎_elim, inl, inr, arith, ◌==◌, ◌&&◌, not, nat_le}
 use Rattle.rk_inv_base.proofs.Words.{nat_lt, drop, take, slice_get, slice_index_or, All, Contains, flat_map, eq-eqb, eqb-true, leb-true}
 use Rattle.rk_inv_base.proofs.Words.{ltb-true, append-nil, append_assoc, length-drop, prefix_len_passes, and_parts, cases_lt, cond-false}

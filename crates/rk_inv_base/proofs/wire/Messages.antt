@@ -7,7 +7,6 @@ use Rattle.rk_inv_base.proofs.Words.{stored_of, IfMaster, ByMaster, IsOfTarget, 
 use Rattle.rk_inv_base.proofs.Words.{TransferIn, JoinedIn, RebuiltIn, GrantAgrees, IsFromSource, PulledAgrees, GotAgrees, CopyIn, post_of}
 use Rattle.rk_inv_base.proofs.Words.{NeededOf, scan_items, View, MessagesOf, is_wanting, Message}
 use Rattle.rk_types.specs.declared.node.Node.TheVariants as nodes
-use Rattle.rk_message.specs.declared.message.Body.TheVariants as bodies
 use Rattle.rk_outside.specs.Segments.{bytes_of as copied_bytes}
 use Rattle.rk_inv_base.proofs.views.Seen.{LooksAs, AllLook}
 use Rattle.rk_inv_base.proofs.views.Needed.{part_weaker}

@@ -8,8 +8,7 @@ use Rattle.rk_inv_base.proofs.Words.{CopyIn, CopySegment, IsOf, IsSound, Master,
 use Rattle.rk_inv_base.proofs.Words.{get, has_crashed, is_awaited, is_gathering, master_at, next_reading, segment_gathered, tablet_in, view}
 use Rattle.rk_inv_base.proofs.Words.{with_master, Handover, Reading, as_entries, changed, cond-true, copy_taken, merging, rebuild_goes_on}
 use Rattle.rk_inv_base.proofs.Words.{rebuilding_on, segment_gathered_in, tablet_at, to_master, with_all, with_gathered, worked_at}
-use Rattle.rk_inv_base.proofs.Words.{All-weaker, Called, HasRoom, IsFormedGathered, IsWellFormed, LAST_MAIN_SEGMENT, delivered, limits_of}
-use Rattle.rk_inv_base.proofs.Words.{cases_Bool}
+use Rattle.rk_inv_base.proofs.Words.{All-weaker, HasRoom, IsFormedGathered, IsWellFormed, LAST_MAIN_SEGMENT, limits_of, cases_Bool}
 use Rattle.rk_inv_tablets.proofs.merge.Heirs.{gathers_from}
 use Rattle.rk_inv_events.proofs.Words.{MayGather, row_rebuilt, row_said, sound_gathered, MayMergeFormed, rebuild_merged_in, tablet_here}
 use Rattle.rk_inv_events.proofs.Words.{AreReadable, master_same, view_gathered}
@@ -190,9 +189,3 @@ sound_taken w number backup master copy sound formed room there fits =
       | inl is ↦ sound_copy w number backup master copy sound lives there is formed room fits
       | inr is ↦ rw is (stays w master 0 sound)
     ])
-
-pub sound_delivered : (w : World) (number backup master : ℕ) (copy : CopySegment) (called : Called) → IsSound w → IsWellFormed w → HasRoom w
-    → get w.wire.messages number ≡ Some (copy_message backup master copy) → HasRoom (delivered w (get w.wire.messages number) called).world
-    → IsSound (delivered w (get w.wire.messages number) called).world
-sound_delivered w number backup master copy called sound formed room there fits =
-    rw there (sound_taken w number backup master copy sound formed room there (rw there at fits))

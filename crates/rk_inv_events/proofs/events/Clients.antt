@@ -11,10 +11,10 @@ use Rattle.rk_world.specs.Refusals.{is_for}
 use Rattle.rk_world.specs.declared.event.Taken.TheVariants as takes
 use Rattle.rk_inv_base.proofs.Words.{All-contains, Answer, AnswerFits, Body, Call, ClientTurn, IsAccepted, IsAfterStart, IsRecordAt}
 use Rattle.rk_inv_base.proofs.Words.{IsSound, LastCall, Located, MayAccept, MayAct, Message, Node, Outcome, Reply, RequestFits, Says}
-use Rattle.rk_inv_base.proofs.Words.{Session, Visited, WasAsked, World, and_parts}
-use Rattle.rk_inv_base.proofs.Words.{asked_by, asking, asking_by, call_lane, client_added, cond_both, fits_with, get, is_accepted}
+use Rattle.rk_inv_base.proofs.Words.{Session, Visited, WasAsked, World, accept, accept_by, accepting, and_parts, ask, ask_by, ask_refusal}
+use Rattle.rk_inv_base.proofs.Words.{asked_by, asking, asking_by, call_lane, client_added, cond_both, fits_with, get, is_accepted, is_added}
 use Rattle.rk_inv_base.proofs.Words.{is_asked, is_call, is_last, ledger_asked, ledger_requested, ledger_taken, sent_again, session_turn}
-use Rattle.rk_inv_base.proofs.Words.{taking, turn_of, untouched, view, with_asked, with_ledger, with_sends}
+use Rattle.rk_inv_base.proofs.Words.{taking, turn_of, untouched, view, where_true, with_asked, with_ledger, with_sends, world_visited}
 use Rattle.rk_inv_base.proofs.Headlines.{sound_accepted, sound_asked, sound_come, sound_saved}
 use Rattle.rk_inv_base.proofs.calls.Accepted.{stands_there}
 use Rattle.rk_inv_base.proofs.calls.CallAsked.{asked_put}
@@ -122,7 +122,7 @@ module _ (w : World) (session : Session) (call : Call) (own : call.client ≡ se
 
 -- a client's turn
 module _ (w : World) (session : Session) (sound : IsSound w) (may : MayAct w.coordinator.masters session) (after : IfSome session.outstanding (IsAfterStart w.base)) where
-  pub takes_turn : (outstanding : Option Call) → session.outstanding ≡ outstanding → IsSound (asking w session outstanding).world
+  takes_turn : (outstanding : Option Call) → session.outstanding ≡ outstanding → IsSound (asking w session outstanding).world
   takes_turn None is = sound
   takes_turn (Some call) is = cond_both (fits_with w session call) (asking_by w session call (session_turn session)) (untouched w session None)
       (λ (visited : Visited). IsSound visited.world)
@@ -139,6 +139,10 @@ module _ (w : World) (session : Session) (sound : IsSound w) (may : MayAct w.coo
 
       turn_is : session_turn session ≡ Some (turn_by session call (range_of session call))
       turn_is = ap (turn_of session) is
+
+  pub sound_asks : IsSound (world_visited w (ask w session))
+  sound_asks = by_found (λ refusal. IsSound (world_visited w (ask_by w session refusal))) (ask_refusal w session)
+      (λ none. takes_turn session.outstanding refl) (λ error is. sound)
 
 -- ---- a client takes an answer
 
@@ -175,7 +179,7 @@ module _ (w : World) (number : ℕ) (session : Session) (sound : IsSound w) (may
   for_client (nodes.Client other) is = ap nodes.Client (eqb-true other session.client is)
   for_client _ is = absurd (cc is)
 
-  pub takes_one : (message : Message) → get w.wire.messages number ≡ Some message → is_for session.client message.to ≡ true
+  takes_one : (message : Message) → get w.wire.messages number ≡ Some message → is_for session.client message.to ≡ true
       → (outstanding : Option Call) → session.outstanding ≡ outstanding
       → IsSound (cond (asked_by_session w session outstanding) (taking w session message.body) (untouched w session (Some takes.Ignored))).world
   takes_one message is to None none = sound
@@ -191,3 +195,6 @@ module _ (w : World) (number : ℕ) (session : Session) (sound : IsSound w) (may
 
       says : Says w.ledger.journal (nodes.Client session.client) message.body
       says = rw (for_client message.to to) at (sound.messages.others number message is)
+
+  pub sound_accepts : IsSound (world_visited w (accept w number session))
+  sound_accepts = grind (arith, world_visited, accept_by, accepting, takes_one, where_true, is_added)

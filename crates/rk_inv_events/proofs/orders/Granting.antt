@@ -6,7 +6,7 @@ use Rattle.rk_transfer.specs.declared.role.Role.TheVariants as roles
 use Rattle.rk_inv_base.proofs.Words.{Grant, GrantAgrees, GrantIn, Handed, Handover, HasSegmentLeft, IsSound, IsWellFormed, Master, Member}
 use Rattle.rk_inv_base.proofs.Words.{Message, Phase, Role, Row, View, World, false≢true, get, granted, granting, has_crashed, in_role}
 use Rattle.rk_inv_base.proofs.Words.{is_member, is_wanting, lineage_of, log_in, master_at, post_of, to_master, view, worked_at}
-use Rattle.rk_inv_tablets.proofs.grant.Granted.{sound_granted}
+use Rattle.rk_inv_tablets.proofs.Headlines.{sound_granted}
 use Rattle.rk_inv_tablets.specs.grant.Moves.{MayGrantFormed}
 use Rattle.rk_inv_tablets.specs.grant.Small.{as_granted, tablet_granted_in}
 use Rattle.rk_inv_events.proofs.Words.{last_member, role_granted, row_said, tablet_granted}

@@ -12,11 +12,11 @@ use Rattle.rk_inv_base.proofs.Words.{pulling_from, Written, member_material, mem
 use Rattle.rk_inv_base.proofs.Words.{IsTarget, MembersFit, NamedFit, entries_from, named_items, scan_items, with_one_more, Phase}
 use Rattle.rk_inv_base.proofs.Words.{Rebuilding, Mark, HasOwnRange, MarkFits, RowIsRebuilt, has_merged, meets, is_member, Master}
 use Rattle.rk_inv_base.proofs.Words.{with_appended, is_absent, without_merged, World, master_at, tablet_in, RoleFits, HandoverFits, view}
-use Rattle.rk_inv_base.proofs.Words.{CoverOf, IsSound, SoundView, target_truth, items_in, is_idle, may_have_staged, IsSettledIn, AreAbove}
-use Rattle.rk_inv_base.proofs.Words.{EachIn, IsRest, IsWithinRows, Message, row_of}
+use Rattle.rk_inv_base.proofs.Words.{CoverOf, SoundView, target_truth, items_in, is_idle, may_have_staged, IsSettledIn, AreAbove, EachIn}
+use Rattle.rk_inv_base.proofs.Words.{IsRest, IsWithinRows, Message, row_of}
 use Rattle.rk_inv_tablets.proofs.Words.{calls_more, speaker_is, CountsFor, SpeaksFor, named_stays, joined_same, AreBelow, own_push}
 use Rattle.rk_inv_tablets.proofs.Words.{as_granted, applied_within, joins_beside, IsRebuilderIn, all_by, view_by_rows, SoundRow}
-use Rattle.rk_inv_tablets.proofs.Words.{SoundBeside, put_same, view_master, tablet_apart, tablet_here, terms_look, MayGrantFormed, granted}
+use Rattle.rk_inv_tablets.proofs.Words.{SoundBeside, put_same, view_master, tablet_apart, tablet_here, terms_look, granted}
 use Rattle.rk_inv_tablets.proofs.Words.{tablet_granted_in, IsBareOf, IsNextOf}
 use Rattle.rk_inv_tablets.proofs.grant.Ends.{carried_next, rising_noted, carried_rest}
 use Rattle.rk_inv_tablets.proofs.grant.Granting.{Granting, entry, master, now, of_handover, old, rest_here, taker, row_was, grow, tablet}
@@ -431,16 +431,3 @@ granted_is w master grant =
       records = put_same (view w).records master i;
       calls = put_same (view w).calls master i;
     })
-
-pub sound_granted : (w : World) (row : Row) (source target : Member) (grant : Grant) → IsSound w → MayGrantFormed (view w) row source target grant → IsSound (tablet_granted_in w target.master grant)
-sound_granted w row source target grant sound may =
-    let a : Granting (view w) = record {
-      row = row;
-      source = source;
-      target = target;
-      grant = grant;
-      sound = sound;
-      may = may;
-    } in
-    subst SoundView (sym (granted_is w target.master grant))
-    (subst (λ (number : ℕ). SoundView (granted (view w) target.master number grant)) (sym may.tablet_is) (view_granted (view w) a))

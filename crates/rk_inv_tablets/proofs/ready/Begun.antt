@@ -6,7 +6,7 @@ use Rattle.rk_inv_base.proofs.Words.{cases_eq, false≢true, drop_all, Contains-
 use Rattle.rk_inv_base.proofs.Words.{lineage_of, row_of, Phase, Rebuilding, Row, Known, known_of, EntryEnd, Rebuild, with_others_given_up}
 use Rattle.rk_inv_base.proofs.Words.{is_member, own_member, unmarked, Master, with_tablet, material_of, side_entries, begun_from}
 use Rattle.rk_inv_base.proofs.Words.{rebuild_begun, with_begun, Tablet, World, master_at, tablet_in, with_master, member_material}
-use Rattle.rk_inv_base.proofs.Words.{IsWithinRows, stored_of, IsGathered, IsFormed, HandoverFits, View, truths, view, IsSound, SoundView}
+use Rattle.rk_inv_base.proofs.Words.{IsWithinRows, stored_of, IsGathered, IsFormed, HandoverFits, View, truths, view, SoundView}
 use Rattle.rk_inv_tablets.proofs.Words.{rebuilt as handover_rebuilt, member as member_at, unread, MayBegin, same_number, covered_by, stays}
 use Rattle.rk_inv_tablets.proofs.Words.{stood, IsRebuilderIn, rows_apart, stands_found, as_begun, begins_from, begun, begun_tablets}
 use Rattle.rk_inv_tablets.proofs.Words.{items_left, rebuild_begun_in, tablet_seen, row_in}
@@ -246,12 +246,3 @@ module _ (w : World) (master : ℕ) (rebuild : Rebuild) where
       ap (λ (m : Master). view (with_master w master m)) (moves greater ∙ ap begins_by_number numbered)
       ∙ view_taken w master (items_left (master_at w master).records rebuild.range (own_member rebuild.lineage master)) asked rebuild.range
       (begins_as master) refl
-
-pub sound_begun : (w : World) (row : Row) (master : ℕ) (rebuild : Rebuild) → IsSound w → MayBegin (view w) row master rebuild → IsSound (rebuild_begun_in w master rebuild)
-sound_begun w row master rebuild sound may =
-    let greater : (tablet_in w master rebuild.tenure.tablet).handover.term < rebuild.tenure.term =
-    let here : ((view w).handovers master rebuild.tenure.tablet).term < row.term =
-    rw may.tablet_is may.greater in
-    omega (arith, here, may.term_is) in
-    subst SoundView (sym (view_begun_in w master rebuild (sound.nodes.numbered master) greater))
-    (view_begun (view w) row master rebuild sound may)

@@ -4,13 +4,13 @@ use Rattle.std.proofs.Common.{◌≡◌, ℕ, ◌+◌, ◌-◌, ◌<◌, true, L
 use Rattle.std.proofs.Common.{append_assoc, length-append, nat_le, nat_lt, slice_index_or, All, Contains, flat_map, le-ltb, append-nil}
 use Rattle.rk_inv_base.proofs.Words.{cond-false, cond_both, get_or_append_left, get_or_push, length-map, flat_map-append, All-contains}
 use Rattle.rk_inv_base.proofs.Words.{range_with_len, hash_of, spelled_of, Held, Member, spelled_all, Entry, FIRST_SIDE_SEGMENT, is_in, Role}
-use Rattle.rk_inv_base.proofs.Words.{Row, items_in, items_of, Master, tablet_at, with_side_segment, with_tablet, as_entries}
-use Rattle.rk_inv_base.proofs.Words.{side_entries, next_sides, with_pulling, sealed_sides, Pulling, Tablet, with_handover, World}
-use Rattle.rk_inv_base.proofs.Words.{master_at, tablet_in, with_master, member_truth, IsItemWithin, Holds, bond_of, post_of}
-use Rattle.rk_inv_base.proofs.Words.{MembersFit, is_granted, View, view, SoundView}
+use Rattle.rk_inv_base.proofs.Words.{Row, items_in, items_of, Master, tablet_at, with_side_segment, with_tablet, as_entries, side_entries}
+use Rattle.rk_inv_base.proofs.Words.{next_sides, with_pulling, sealed_sides, Pulling, Tablet, with_handover, World, master_at, tablet_in}
+use Rattle.rk_inv_base.proofs.Words.{with_master, member_truth, IsItemWithin, Holds, bond_of, post_of, MembersFit, is_granted, View, view}
+use Rattle.rk_inv_base.proofs.Words.{SoundView}
 use Rattle.rk_inv_tablets.proofs.Words.{covered_by, IsIn, truth_in, IsSecond, joining_second, scanned, all_by, tablet_apart, tablet_here}
-use Rattle.rk_inv_tablets.proofs.Words.{put_here, put_same, put2_same, view_master, MaySealThere, as_joining, as_sealed}
-use Rattle.rk_inv_tablets.proofs.Words.{sealed, side_lists_sealed_in, sides_cut, with_side_items, with_sides, row_in, items_again}
+use Rattle.rk_inv_tablets.proofs.Words.{put_here, put_same, put2_same, view_master, MaySealThere, as_joining, as_sealed, sealed}
+use Rattle.rk_inv_tablets.proofs.Words.{side_lists_sealed_in, sides_cut, with_side_items, with_sides, row_in, items_again}
 use Rattle.rk_world.specs.SideLogs.{with_side_item}
 use Rattle.rk_inv_tablets.proofs.seal.SidesCut.{view_sides_cut}
 use Rattle.rk_inv_tablets.proofs.seal.SidesJoined.{HaveCopies, fits_joining, view_sides_joined}

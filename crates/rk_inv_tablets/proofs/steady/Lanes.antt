@@ -1,13 +1,13 @@
 -- Each backup of a lane tells what it stores, and what targets have sealed is there: in a new lane, after each event, and after a
 -- client's turn or answer.
 use Rattle.std.proofs.Common.{◌≡◌, ◌≤◌, ◌&&◌, ℕ, true, [], length, Option, None, Some, refl, ap, arith, is_some, nat_le, unwrap_or}
-use Rattle.rk_inv_base.proofs.Words.{cases_eq, nat_tests, get_other, get_same, IsInOrder, get, get_or, Range, Segments, Called}
+use Rattle.rk_inv_base.proofs.Words.{cases_eq, nat_tests, All-nil, get_other, get_same, IsInOrder, get, get_or, Range, Segments, Called}
 use Rattle.rk_inv_base.proofs.Words.{no_segments, accept, ask, Session, IsWellFormed, Master, new_master, tablet_at, with_tablet}
 use Rattle.rk_inv_base.proofs.Words.{master_step, master_turn, range_below, range_from, AllTell, world_visited, has_parts, with_half}
 use Rattle.rk_inv_base.proofs.Words.{with_halves, with_split, happened, with_added, World, master_at, new_world, with_master, Event}
 use Rattle.rk_inv_tablets.proofs.Words.{master_other, master_same}
 use Rattle.rk_transfer.specs.declared.role.Role.TheVariants as roles
-use Rattle.rk_inv_base.proofs.views.Fresh.{found_within}
+use Rattle.rk_inv_base.proofs.views.Fresh.{each_fresh, found_within}
 use Rattle.rk_inv_tablets.proofs.steady.Sealed.{IsSealedAt, SealsThere, either_seals, sealed_at, seals_there}
 use Rattle.rk_inv_tablets.proofs.steady.Sealed.{seals_with_tablet, there_from_each}
 use Rattle.rk_inv_tablets.proofs.steady.Steps.{step_there}
@@ -48,7 +48,7 @@ tell_accepted w number session tell = accept_keeps Tell w tell number session
 -- ---- what is sealed
 
 -- what the targets of each master have sealed is there
-abbrev pub Sealed : Part
+abbrev Sealed : Part
 Sealed masters count backups = (master : ℕ) → IsSealedAt (get_or (new_master master []) masters master)
 
 module _ (master : Master) (there : SealsThere master) where
@@ -89,7 +89,7 @@ module _ (w : World) (sealed : AllSealedThere w) where
   there_at : IsWellFormed w → (number : ℕ) → SealsThere (master_at w number)
   there_at formed number = there_from_each (master_at w number) (order_at formed number) (sealed number)
 
-  pub sealed_kept : IsWellFormed w → IsKept Sealed w
+  sealed_kept : IsWellFormed w → IsKept Sealed w
   sealed_kept formed = record {
     now = sealed;
     steps = λ master message.
@@ -107,3 +107,17 @@ module _ (w : World) (sealed : AllSealedThere w) where
         (split_there (master_at w master) (there_at formed master) tablet at new term);
     stores = λ number segments. sealed;
   }
+
+pub sealed_new : (lane masters backups : ℕ) → AllSealedThere (new_world lane masters backups)
+sealed_new lane masters backups master =
+    let fresh = each_fresh lane masters backups master in
+    rw fresh.is_new (λ tablet. All-nil _)
+
+pub sealed_event : (w : World) (event : Event) (called : Called) → IsWellFormed w → AllSealedThere w → AllSealedThere (happened w event called).world
+sealed_event w event called formed sealed = event_keeps Sealed w (sealed_kept w sealed formed) event called
+
+pub sealed_asked : (w : World) (session : Session) → AllSealedThere w → AllSealedThere (world_visited w (ask w session))
+sealed_asked w session sealed = ask_keeps Sealed w sealed session
+
+pub sealed_accepted : (w : World) (number : ℕ) (session : Session) → AllSealedThere w → AllSealedThere (world_visited w (accept w number session))
+sealed_accepted w number session sealed = accept_keeps Sealed w sealed number session

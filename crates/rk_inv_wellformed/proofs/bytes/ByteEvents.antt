@@ -1,15 +1,16 @@
 -- The bytes of all logs of a lane rise by each event at most threefold, by an entry, and by what the event brings; so they fit after each
 -- event that brings few.
-use Rattle.std.proofs.Common.{◌≡◌, ◌≤◌, ◌+◌, ◌*◌, ℕ, Option, None, [], refl, arith}
+use Rattle.std.proofs.Common.{◌≡◌, ◌≤◌, ◌<◌, ◌+◌, ◌*◌, ℕ, Option, None, [], refl, arith}
 use Rattle.rk_inv_wellformed.proofs.Words.{Node, Range, Row, Called, backup_step, IsWellFormed, limits_of, Master, log_bytes, new_master}
-use Rattle.rk_inv_wellformed.proofs.Words.{tablet_at, master_step, master_turn, MayHappen, MayTurn, refusal, HasRoom}
-use Rattle.rk_inv_wellformed.proofs.Words.{row_split, with_split, Stepped, happened, log_bytes_of, quietly, tablet_added}
+use Rattle.rk_inv_wellformed.proofs.Words.{tablet_at, master_step, master_turn, MayHappen, MayTurn, comes_anyway, refusal, HasRoom}
+use Rattle.rk_inv_wellformed.proofs.Words.{MOST_BYTES, row_split, with_split, Stepped, happened, log_bytes_of, quietly, tablet_added}
 use Rattle.rk_inv_wellformed.proofs.Words.{turned, with_added, World, bytes_of_logs, master_at, with_master, Event, LONGEST_LEFT}
-use Rattle.rk_inv_wellformed.proofs.Words.{brought_by, Role}
+use Rattle.rk_inv_wellformed.proofs.Words.{MOST_BROUGHT, brought, brought_by, Role}
 use Rattle.rk_inv_wellformed.specs.Brought.{most_after}
 use Rattle.rk_inv_wellformed.proofs.bytes.LogBytes.{bytes_with_tablet, unsealed_at_most}
 use Rattle.rk_inv_wellformed.proofs.bytes.StepBytes.{split_bytes, told_bytes}
 use Rattle.rk_inv_wellformed.proofs.bytes.TurnBytes.{turn_bytes}
+use Rattle.rk_inv_wellformed.proofs.lanes.Events.{comes_fresh}
 use Rattle.rk_inv_wellformed.proofs.lanes.Works.{delivered_is, split_is}
 use Rattle.rk_inv_wellformed.proofs.lanes.Worlds.{formed_limits, master_of}
 use Rattle.rk_inv_wellformed.proofs.maps.{either_way, sum_put, within_or, numbered_order}
@@ -88,3 +89,9 @@ pub bytes_rise : (w : World) (event : Event) (called : Called) → MayHappen w e
     → bytes_of_logs (happened w event called).world ≤ most_after w event
 bytes_rise w event called may none formed room =
     grind (arith, added_bytes, delivered_bytes, turned_bytes, split_logs)
+
+-- so they fit after one that brings few
+pub bytes_event : (w : World) (event : Event) (called : Called) → MayHappen w event → refusal w event ≡ None → brought w event ≤ MOST_BROUGHT
+    → IsWellFormed w → HasRoom w → bytes_of_logs (happened w event called).world < MOST_BYTES
+bytes_event w event called may none few formed room =
+    grind (arith, comes_anyway, refusal, brought, bytes_of_logs, happened, comes_fresh, bytes_rise)

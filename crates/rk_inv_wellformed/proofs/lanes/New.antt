@@ -1,10 +1,10 @@
 -- A new lane is well formed and has room, and a new session may act, also once it asked its next call.
-use Rattle.std.proofs.Common.{◌≡◌, ◌≤◌, ℕ, List, [], ◌∷◌, map, replicate, sum, All, refl, subst, arith, flat_map}
-use Rattle.rk_inv_wellformed.proofs.Words.{All-cons, All-map, All-nil, sum_by-cons, range_with_len, EachIn, IsInOrder}
-use Rattle.rk_inv_wellformed.proofs.Words.{IsInScanOrder, MOST_BACKUPS, IsFormedMaster, IsWellFormed, Limits, limits_of, Master}
-use Rattle.rk_inv_wellformed.proofs.Words.{log_bytes, new_master, MOST_MASTERS, HasRoom, counters_of, Known}
-use Rattle.rk_inv_wellformed.proofs.Words.{nothing, HasRoomIn, All-replicate}
-use Rattle.rk_inv_wellformed.proofs.Words.{new_masters, new_world}
+use Rattle.std.proofs.Common.{◌≡◌, ◌≤◌, ℕ, List, [], ◌∷◌, map, replicate, sum, All, refl, subst, arith, w32, flat_map}
+use Rattle.rk_inv_wellformed.proofs.Words.{All-cons, All-map, All-nil, sum_by-cons, range_with_len, EachIn, IsInOrder, IsNumber}
+use Rattle.rk_inv_wellformed.proofs.Words.{IsInScanOrder, MOST_BACKUPS, Session, IsFormedMaster, IsWellFormed, Limits, limits_of, Master}
+use Rattle.rk_inv_wellformed.proofs.Words.{log_bytes, new_master, IsLawfulCall, MOST_MASTERS, MayAct, HasRoom, counters_of, Op, Known}
+use Rattle.rk_inv_wellformed.proofs.Words.{nothing, HasRoomIn, All-replicate, busy, new_session, next_call}
+use Rattle.rk_inv_wellformed.proofs.Words.{session_calling, new_masters, new_world}
 use Rattle.std.proofs.lemmas.List.{length-replicate}
 use Rattle.std.specs.List.Sorted.{IsStrictlySortedBy}
 use Rattle.rk_inv_wellformed.proofs.maps.{all_flat, all_each, found_numbered, numbers_are, with_numbers}
@@ -101,3 +101,11 @@ module _ (lane masters backups : ℕ) where
       made number = new_master number (replicate backups nothing)
 
 -- ---- a session
+
+-- a new session may act
+pub new_may_act : (count client : ℕ) → IsNumber w32 1 client → MayAct count (new_session client)
+new_may_act count client number = grind arith
+
+-- and so may one that asks a lawful call, unless one is outstanding
+pub may_act_calling : (count : ℕ) (session : Session) (table : ℕ) (key : List ℕ) (op : Op) → IsLawfulCall (next_call session table key op) → MayAct count session → MayAct count (session_calling session table key op (busy session))
+may_act_calling count session table key op lawful may = grind (arith, busy, session_calling)

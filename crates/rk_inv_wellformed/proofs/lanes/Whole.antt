@@ -5,9 +5,8 @@ use Rattle.rk_inv_wellformed.proofs.Words.{coordinator_step, IsFormedRow, IsWell
 use Rattle.rk_inv_wellformed.proofs.Words.{tablet_migrated, coordinator_notice, IsMaster, MayCome, MayHappen, refusal, HasRoom, Accepts}
 use Rattle.rk_inv_wellformed.proofs.Words.{Asks, Happens, IsCalmEvent, MayOccur, after, rows_split, with_split, happened, quietly}
 use Rattle.rk_inv_wellformed.proofs.Words.{tablet_added, with_added, World, crashed_masters, has_crashed, master_at, with_coordinator}
-use Rattle.rk_inv_wellformed.proofs.Words.{Event, AllHaveRoom, Happening, IsCalmHappening, tablet_split}
-use Rattle.rk_inv_wellformed.proofs.Words.{IsFormedCoordinator, Limits, MayTurn, backup_step, coordinator_turn, log_bytes_of, master_step}
-use Rattle.rk_inv_wellformed.proofs.Words.{master_turn, seen_in, turned}
+use Rattle.rk_inv_wellformed.proofs.Words.{Event, AllHaveRoom, Happening, IsCalmHappening, tablet_split, IsFormedCoordinator, Limits}
+use Rattle.rk_inv_wellformed.proofs.Words.{MayTurn, backup_step, coordinator_turn, log_bytes_of, master_step, master_turn, seen_in, turned}
 use Rattle.rk_inv_wellformed.proofs.coordinator.Coordinators.{IsFormedChange, formed_coordinator_step, formed_coordinator_turn}
 use Rattle.rk_inv_wellformed.proofs.coordinator.Coordinators.{formed_tablet_migrated, formed_with_row, rows_have_room, added_allowed}
 use Rattle.rk_inv_wellformed.proofs.coordinator.Coordinators.{formed_rows_split, formed_with_added, formed_with_split, one_has_stood}

@@ -7,11 +7,11 @@ use Rattle.rk_inv_wellformed.proofs.Words.{IsFormedMessage, limits_of, Master, n
 use Rattle.rk_inv_wellformed.proofs.Words.{tablet_migrated, coordinator_notice, IsMaster, MayCome, MayHappen, MayTurn, range_below}
 use Rattle.rk_inv_wellformed.proofs.Words.{range_from, WORN_NUMBER, comes_anyway, refusal, HasRoom, MOST_NUMBER, IsCalmEvent, has_parts}
 use Rattle.rk_inv_wellformed.proofs.Words.{row_split, rows_split, with_half, with_halves, with_split, Stepped, backed_at, happened}
-use Rattle.rk_inv_wellformed.proofs.Words.{log_bytes_of, losing, quietly, seen_in, tablet_added, turned, with_added, with_sends}
-use Rattle.rk_inv_wellformed.proofs.Words.{worked_at, Worked, World, crashed_masters, has_crashed, master_at, with_coordinator, with_top}
-use Rattle.rk_inv_wellformed.proofs.Words.{Event, tablet_split, is_added, with_client, seen_of, LastCall, with_wire, without_message, get}
-use Rattle.rk_inv_wellformed.proofs.Words.{sent_again, with_crash, Accepts, Asks, Happens, MayOccur, after, Happening}
-use Rattle.rk_inv_wellformed.proofs.Words.{IsCalmHappening, world_stepped, stepped_by, to_coordinator}
+use Rattle.rk_inv_wellformed.proofs.Words.{log_bytes_of, losing, quietly, seen_in, tablet_added, turned, with_added, with_sends, worked_at}
+use Rattle.rk_inv_wellformed.proofs.Words.{Worked, World, crashed_masters, has_crashed, master_at, with_coordinator, with_top, Event}
+use Rattle.rk_inv_wellformed.proofs.Words.{tablet_split, is_added, with_client, seen_of, LastCall, with_wire, without_message, get}
+use Rattle.rk_inv_wellformed.proofs.Words.{sent_again, with_crash, Accepts, Asks, Happens, MayOccur, after, Happening, IsCalmHappening}
+use Rattle.rk_inv_wellformed.proofs.Words.{world_stepped, stepped_by, to_coordinator}
 use Rattle.rk_inv_wellformed.specs.Fitting.{AllLogsFit, LogsFit}
 use Rattle.rk_inv_wellformed.proofs.coordinator.Coordinators.{IsFormedChange, formed_coordinator_step, formed_tablet_migrated}
 use Rattle.rk_inv_wellformed.proofs.coordinator.Coordinators.{formed_with_row, rows_have_room, added_allowed, formed_rows_split}
