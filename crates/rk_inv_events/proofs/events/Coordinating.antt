@@ -17,7 +17,7 @@ use Rattle.rk_inv_base.proofs.Words.{row_migrated, row_noticed, row_of, tablet_a
 use Rattle.rk_inv_base.proofs.Words.{with_coordinator, IsInOrder, cond-true}
 use Rattle.rk_inv_base.proofs.Headlines.{sound_crash_noticed, sound_migrated, sound_added}
 use Rattle.rk_inv_wellformed.proofs.lanes.Events.{has_no_fault, no_inner, no_second}
-use Rattle.rk_inv_rows.proofs.split.Split.{sound_split}
+use Rattle.rk_inv_rows.proofs.Headlines.{sound_split}
 use Rattle.rk_inv_events.proofs.Words.{HasSomeIn, MayAdd, MayNotice, all_by, crash_noticed_in, filter_from, found_stands, kept_passes}
 use Rattle.rk_inv_events.proofs.Words.{tablet_added, by_found}
 

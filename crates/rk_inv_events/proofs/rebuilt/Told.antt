@@ -11,7 +11,7 @@ use Rattle.rk_inv_base.proofs.Words.{delivered, get, happened, own_to, rebuilt_i
 use Rattle.rk_inv_base.proofs.Words.{view, with_all_sent, with_ends, with_ledger}
 use Rattle.rk_inv_rows.proofs.lineage.RebuiltWorld.{sound_rebuilt_taken}
 use Rattle.rk_inv_logs.proofs.made.RebuiltEnds.{ends_known, ends_reach, made_is, others_tell, records_made}
-use Rattle.rk_inv_logs.proofs.read.ReadBack.{read_of_rebuilt}
+use Rattle.rk_inv_logs.proofs.Headlines.{read_of_rebuilt}
 use Rattle.rk_inv_logs.specs.read.Moves.{MayTakeRebuiltFormed}
 use Rattle.rk_inv_logs.specs.read.ReadBack.{IsReadBack}
 use Rattle.rk_inv_events.proofs.Words.{MayOwnRebuilt, rebuilt_at, rebuilt_taken_in, row_owned_in, row_said, without_marks}

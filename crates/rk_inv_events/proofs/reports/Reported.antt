@@ -13,8 +13,7 @@ use Rattle.rk_inv_base.proofs.Words.{release_to, report, row_at, row_for, row_mo
 use Rattle.rk_inv_base.proofs.Words.{with_coordinator, with_ledger, with_rebuilt, with_sends, cond_both}
 use Rattle.rk_inv_base.proofs.Headlines.{sound_noted}
 use Rattle.rk_inv_base.proofs.rows.TurnedRows.{new_stands}
-use Rattle.rk_inv_rows.proofs.lineage.JoinedTaken.{sound_joined_taken}
-use Rattle.rk_inv_rows.proofs.lineage.RowMoved.{sound_moved}
+use Rattle.rk_inv_rows.proofs.Headlines.{sound_joined_taken, sound_moved}
 use Rattle.rk_inv_events.proofs.Words.{IsWaitingFor, SaysIn, found_stands, role_fits, row_formed, row_in, row_owned_in, row_said, by_found}
 use Rattle.rk_inv_events.proofs.Words.{either_way}
 use Rattle.rk_inv_events.proofs.events.Coordinating.{rows_some}
