@@ -146,10 +146,14 @@ module _ (w : World) (backup master : ℕ) (append : Append) (segments : Segment
   stored_all count within = sound_sent (world_of new) _ (sound_more new front (λ some. some))
       (may_tell_stored (view (world_of new)) backup master append.segment count (rw (stores_now new) within))
 
+  -- the lane once the call of its replica came to this
+  abbrev after : Called → World
+  after called =
+      (backed_at (with_stored_by w backup (λ told. append_taken told master append called) (Some segments))
+      (append_step backup master append called)).world
+
   -- by what the call of its replica came to
-  taken_by : (fault : Option ℕ)
-      → IsSound (backed_at (with_stored_by w backup (λ told. append_taken told master append (append_called segments master append fault)) (Some segments))
-      (append_step backup master append (append_called segments master append fault))).world
+  taken_by : (fault : Option ℕ) → IsSound (after (append_called segments master append fault))
   taken_by None =
       stored_all (length (bytes_of (append_taken segments master append (Appended 0) master append.segment))) (rw now (omega arith))
     where
@@ -159,7 +163,7 @@ module _ (w : World) (backup master : ℕ) (append : Append) (segments : Segment
           (and_from (master == master) (append.segment == append.segment) (eq-eqb master master refl) (eq-eqb append.segment append.segment refl))
           ∙ part_taken (segments master append.segment) new
   taken_by (Some count) =
-      elim (calls_replica (length (bytes_of (segments master append.segment))) append) as (λ calls. IsSound (backed_at (with_stored_by w backup (λ told. append_taken told master append (cond calls (Failed count) (Appended (length stored)))) (Some segments)) (append_step backup master append (cond calls (Failed count) (Appended (length stored))))).world) [
+      elim (calls_replica (length (bytes_of (segments master append.segment))) append) as (λ calls. IsSound (after (cond calls (Failed count) (Appended (length stored))))) [
         | true ↦
             sound_more (take count new) (part_front (log_bytes_of w master append.segment) stored new count front)
             (λ some none. some (ap (λ (b : List ℕ). take count b) none ∙ none_taken count))

@@ -16,8 +16,7 @@ use Rattle.rk_world.specs.Limits.{IsThere}
 use Rattle.rk_world.specs.Premises.{MayCome}
 use Rattle.rk_world.specs.Room.{HasRoomIn}
 use Rattle.rk_world.specs.Runs.{IsCalmEvent}
-use Rattle.rk_inv_wellformed.proofs.Headlines.{bytes_event}
-use Rattle.rk_inv_wellformed.proofs.bytes.ByteEvents.{logs_with, master_below}
+use Rattle.rk_inv_wellformed.proofs.bytes.ByteEvents.{bytes_event, logs_with, master_below}
 use Rattle.rk_inv_wellformed.proofs.bytes.StepBytes.{told_bytes}
 use Rattle.rk_inv_wellformed.proofs.lanes.Events.{comes_fresh}
 use Rattle.rk_inv_wellformed.proofs.lanes.Worlds.{formed_limits, master_of}

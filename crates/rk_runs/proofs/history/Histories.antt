@@ -6,8 +6,7 @@ use Rattle.rk_inv_base.proofs.Words.{MOST_MASTERS, AllTell, World, new_world}
 use Rattle.std.proofs.lemmas.List.FromFn.{get_or-map-range_with_len}
 use Rattle.rk_world.specs.Cluster.{HasOneHistory, journals_of}
 use Rattle.rk_world.specs.Ledger.{new_ledger}
-use Rattle.rk_inv_wellformed.proofs.Headlines.{new_may_act}
-use Rattle.rk_inv_wellformed.proofs.lanes.New.{new_has_room, new_is_well_formed}
+use Rattle.rk_inv_wellformed.proofs.lanes.New.{new_has_room, new_is_well_formed, new_may_act}
 use Rattle.rk_inv_base.proofs.views.Empty.{empty_is_sound}
 use Rattle.rk_runs.specs.history.Agreement.{AreTold, IsLastKnown}
 use Rattle.rk_runs.proofs.history.Clusters.{IsGood, IsGoodLane, ledgers_of}

@@ -17,7 +17,7 @@ use Rattle.rk_world.specs.Premises.{IsLawfulCall, MayCome}
 use Rattle.rk_world.specs.Refusals.{is_for}
 use Rattle.rk_world.specs.Replicas.{IsTold}
 use Rattle.rk_world.specs.Runs.{IsCalmEvent}
-use Rattle.rk_inv_wellformed.proofs.Headlines.{may_act_calling}
+use Rattle.rk_inv_wellformed.proofs.lanes.New.{may_act_calling}
 use Rattle.rk_runs.specs.history.Agreement.{Agrees}
 use Rattle.rk_runs.proofs.history.Agreeing.{ChangesAt, agrees_calling, agrees_grown}
 use Rattle.rk_runs.proofs.history.Clusters.{IsGood, IsGoodLane, IsGoodSession, changes_there, each_session, lanes_there, ledgers_of}
