@@ -34,8 +34,7 @@ read_of_rebuilt v row lineage to place ends sound may = by_lineage v row to plac
 -- records that the ends of the calls of that part make, in their order: each but for its stamp the one that the staged call was to make.
 -- They are of keys of the row, go on lawfully from the journal, and give no mutation a second record. So what counts for each other row
 -- tells all of it still. With them each end that is kept is known, and the ends that are kept reach each mutation of the row.
-module _ (v : View) (row : Row) (members : List (List Entry)) (sound : SoundView v) (stands : Contains v.rows row) where
-  module _ (v : View) (row : Row) (members : List (List Entry)) (sound : SoundView v) (has : Contains v.rows row)
+module _ (v : View) (row : Row) (members : List (List Entry)) (sound : SoundView v) (has : Contains v.rows row)
     (read : IsReadBack (truths v row) (rests v row) members) where
   pub made_is : made_of v.asked v.journal (merged_ends members) ≡ made_of v.asked v.journal (call_ends read.part)
   made_is = Rattle.rk_inv_logs.proofs.made.RebuiltEnds.made_is v row members sound has read
