@@ -18,7 +18,8 @@ pub use Rattle.rk_inv_base.proofs.rebuilds.Gathered.{NeedsFew, NoneBehind, membe
 pub use Rattle.rk_inv_base.proofs.rebuilds.Gathered.{segment_read}
 pub use Rattle.rk_inv_base.proofs.roles.RoleTaken.{rows_apart, view_role_taken}
 pub use Rattle.rk_inv_base.proofs.roles.Steady.{rebuilding_behind}
-pub use Rattle.rk_inv_base.proofs.rows.Apart.{contains_cases, in_one_row, key_outside, no_meeting, one_met, one_precedes, same_number}
+pub use Rattle.rk_inv_base.proofs.rows.Apart.{contains_cases, has_itself, in_one_row, key_outside, no_meeting, one_met, one_precedes}
+pub use Rattle.rk_inv_base.proofs.rows.Apart.{same_number}
 pub use Rattle.rk_inv_base.proofs.rows.BeforeTurn.{IsEarly, at_most, counted_before, none_closes, none_marked, none_rebuilds}
 pub use Rattle.rk_inv_base.proofs.rows.Heirs.{not_begun}
 pub use Rattle.rk_inv_base.proofs.rows.Members.{inside_heir, inside_member, is_inside}

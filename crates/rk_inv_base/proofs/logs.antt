@@ -3,6 +3,7 @@ pub mod Applied
 pub mod Segments
 pub mod Logs
 pub mod Floors
+pub mod FloorsOf
 pub mod Grows
 pub mod Copies
 pub mod BytesStored

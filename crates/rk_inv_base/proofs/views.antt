@@ -14,3 +14,4 @@ pub mod Cover
 pub mod Places
 pub mod Needed
 pub mod Tables
+pub mod Among

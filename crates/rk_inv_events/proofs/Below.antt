@@ -1,5 +1,5 @@
 -- Words of the crates below that the crates above take from here, so that these need not stand on those.
-pub use Rattle.rk_inv_logs.proofs.apply.MergedEnds.{mapped}
+pub use Rattle.rk_inv_base.proofs.views.Among.{mapped}
 pub use Rattle.rk_inv_rows.proofs.finished.JoinedDelivered.{finishes}
 pub use Rattle.rk_inv_rows.proofs.finished.OnlyJoined.{only_joined}
 pub use Rattle.rk_inv_tablets.proofs.crash.Among.{flat_from, flat_of, named_from, place_there}

@@ -47,9 +47,10 @@ pub use Rattle.rk_inv_tablets.specs.crash.Moves.{AreReadable}
 pub use Rattle.rk_inv_tablets.specs.merge.Moves.{MayMergeFormed}
 pub use Rattle.rk_inv_tablets.specs.merge.Small.{as_merged, merge_in, piece_entries, rebuild_merged_in, with_entries}
 pub use Rattle.rk_inv_tablets.specs.seal.Moves.{AreSealedThere, MaySealThere}
-pub use Rattle.rk_inv_rows.proofs.lineage.Among.{first_stand, flat_among, from_flat, kept_among, kept_passes, later_stands, place_in}
-pub use Rattle.rk_inv_rows.proofs.lineage.Among.{taken_from, to_flat}
-pub use Rattle.rk_inv_rows.proofs.lineage.Pieces.{IsCovered, covered_by, covered_of, unmarked_place, unmarked_stood}
+pub use Rattle.rk_inv_rows.proofs.lineage.Among.{first_stand, flat_among, kept_among, kept_passes, later_stands}
+pub use Rattle.rk_inv_base.proofs.views.Among.{from_flat, place_in, taken_from, to_flat, IsCovered, covered_by, unmarked_place}
+pub use Rattle.rk_inv_base.proofs.views.Among.{unmarked_stood}
+pub use Rattle.rk_inv_rows.proofs.lineage.Pieces.{covered_of}
 pub use Rattle.rk_inv_rows.proofs.lineage.RebuiltMaterial.{at, now_done, own_done, rebuilt_at, truth_from, truth_has_own, truth_has_piece}
 pub use Rattle.rk_inv_rows.proofs.lineage.Scanned.{newest_scanned, scan_newest}
 pub use Rattle.rk_inv_rows.proofs.lineage.TakenOver.{HasBoth, plain_fewer, table_over}

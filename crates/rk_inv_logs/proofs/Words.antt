@@ -33,7 +33,7 @@ pub use Rattle.rk_inv_base.proofs.views.Places.{behind_any}
 pub use Rattle.rk_inv_base.proofs.views.Put.{put2_by, put2_same, put_by, put_here, put_is, put_other, put_same}
 pub use Rattle.rk_inv_base.proofs.views.Views.{view_master}
 pub use Rattle.rk_inv_base.proofs.wire.Messages.{by_master, if_master}
-pub use Rattle.rk_inv_rows.proofs.lineage.FloorsOf.{floor_among}
+pub use Rattle.rk_inv_base.proofs.logs.FloorsOf.{floor_among}
 pub use Rattle.rk_inv_rows.proofs.lineage.Histories.{history_of}
 pub use Rattle.rk_inv_rows.proofs.lineage.RebuiltMaterial.{RebuiltAt, rebuilt_at}
 pub use Rattle.rk_inv_rows.specs.lineage.Lineages.{TellHistory}
@@ -47,6 +47,7 @@ pub use Rattle.rk_inv_tablets.proofs.crash.MarksTold.{sides_named}
 pub use Rattle.rk_inv_tablets.proofs.crash.PieceRows.{mark_says, marked_names_none, marked_of_row}
 pub use Rattle.rk_inv_tablets.proofs.crash.ReadTold.{side_material}
 pub use Rattle.rk_inv_tablets.proofs.crash.Unmarked.{IsUnmarked, first_among, free_place, free_stands, marked_stands, taken_at}
+pub use Rattle.rk_inv_tablets.proofs.ready.OwnItems.{one_stands, two_stand}
 pub use Rattle.rk_inv_tablets.proofs.ready.Outside.{begun_lacks}
 pub use Rattle.rk_inv_tablets.specs.crash.Moves.{AreReadable}
 pub use Rattle.rk_log.proofs.Cuts.{ends_within}
@@ -61,3 +62,9 @@ pub use Rattle.rk_types.proofs.NumberMaps.{get_remove, get_removed}
 pub use Rattle.rk_world.specs.Commits.{ended_call}
 pub use Rattle.rk_world.specs.Gather.{main_entries, next_side}
 pub use Rattle.rk_world.specs.Merge.{is_same_call}
+pub use Rattle.rk_inv_base.proofs.rows.Apart.{key_outside, key_outside as key_beside, same_number}
+pub use Rattle.rk_inv_base.proofs.views.Among.{mapped, mapped_from}
+pub use Rattle.rk_inv_rows.proofs.lineage.TakenOver.{above_fewer, plain_above}
+pub use Rattle.rk_inv_tablets.proofs.crash.MarksTold.{before_piece, side_held, unmarked_grow}
+pub use Rattle.rk_model.specs.History.{record_of as map_record_of, with_entry}
+pub use Rattle.rk_tablet_map.specs.Phase.{member as member_at}

@@ -10,7 +10,7 @@ pub use Rattle.rk_inv_base.proofs.logs.Missed.{Misses, all_names_none, counting_
 pub use Rattle.rk_inv_base.proofs.logs.Missed.{material_none, none_touches, unmarked_missed}
 pub use Rattle.rk_inv_base.proofs.pulls.Joining.{differ, kept_stands}
 pub use Rattle.rk_inv_base.proofs.rows.AddedRows.{all_with, known_placed, new_placed, stands_placed, stood_placed}
-pub use Rattle.rk_inv_base.proofs.rows.Apart.{contains_cases, in_one_row, key_outside, one_precedes, same_number}
+pub use Rattle.rk_inv_base.proofs.rows.Apart.{contains_cases, has_itself, in_one_row, key_outside, one_precedes, same_number}
 pub use Rattle.rk_inv_base.proofs.rows.RowReplaced.{cover_replaced, covered_replaced, known_replaced, view_replaced}
 pub use Rattle.rk_inv_base.proofs.rows.Serving.{found_stands, meets_either}
 pub use Rattle.rk_inv_base.proofs.rows.TurnedRows.{all_turned, covered_turned, known_turned, new_stands, stands_found, stands_still, stood}
@@ -33,3 +33,4 @@ pub use Rattle.rk_tablet_map.specs.declared.error.MapError.TheVariants.{BadSplit
 pub use Rattle.rk_world.specs.Finished.{Finishes, IsFinished, own_entries}
 pub use Rattle.rk_world.specs.Splits.{tablet_split, tablet_split_fault_by, tablet_split_fault_of, with_rows_split}
 pub use Rattle.rk_inv_base.proofs.rows.MigrationBegun.{bystander_stays}
+pub use Rattle.rk_inv_base.proofs.logs.FloorsOf.{floor_among, floor_within, one_within}

@@ -1,7 +1,6 @@
 pub mod Among
 pub mod Histories
 pub mod LineageSays
-pub mod FloorsOf
 pub mod Untouched
 pub mod RowMoved
 pub mod Pieces

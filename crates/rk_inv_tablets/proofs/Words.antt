@@ -23,7 +23,7 @@ pub use Rattle.rk_inv_base.proofs.roles.Released.{IsOutside, heir_outside, outsi
 pub use Rattle.rk_inv_base.proofs.roles.RoleTaken.{rows_apart}
 pub use Rattle.rk_inv_base.proofs.roles.Roles.{role_looks, roles_looks, terms_look}
 pub use Rattle.rk_inv_base.proofs.roles.Steady.{IsHeir, heir_post}
-pub use Rattle.rk_inv_base.proofs.rows.Apart.{contains_cases, in_one_row, key_outside, one_precedes, same_number}
+pub use Rattle.rk_inv_base.proofs.rows.Apart.{contains_cases, has_itself, in_one_row, key_outside, one_precedes, same_number}
 pub use Rattle.rk_inv_base.proofs.rows.Serving.{found_stands, meets_either}
 pub use Rattle.rk_inv_base.proofs.rows.Speakers.{speaker_is, speaker_of, waiting_at}
 pub use Rattle.rk_inv_base.proofs.rows.TurnedRows.{behind_first, stands_found}
@@ -65,5 +65,7 @@ pub use Rattle.rk_world.specs.Gather.{gather_begun, main_entries, unread}
 pub use Rattle.rk_inv_base.proofs.logs.OneMore.{joins_beside}
 pub use Rattle.rk_inv_wellformed.proofs.masters.Pulls.{items_again}
 pub use Rattle.rk_inv_wellformed.proofs.masters.Rebuilding.{floor_first}
-pub use Rattle.rk_inv_wellformed.proofs.maps.Maps.{found_changed}
+pub use Rattle.rk_inv_wellformed.proofs.maps.Maps.{All_insert, each_from_pairs, found_changed}
 pub use Rattle.std.proofs.lemmas.Bool.{lt-leb}
+pub use Rattle.rk_inv_base.proofs.views.ByRows.{IsRebuiltIn, staged_as}
+pub use Rattle.std.proofs.Math.Seq.{drop-append-add, drop-append_seam, set-append_seam, take-append-add}

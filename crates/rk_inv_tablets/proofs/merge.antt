@@ -4,6 +4,5 @@ pub mod Heirs
 pub mod LogsMore
 pub mod Merging
 pub mod Collected
-pub mod MergedMessages
 pub mod Merged
 pub mod RebuildMerged

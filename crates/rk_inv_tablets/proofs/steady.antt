@@ -1,9 +1,5 @@
 pub mod Sealed
-pub mod Requests
-pub mod Commits
 pub mod Handovers
-pub mod Pulls
-pub mod Rebuilds
 pub mod Turns
 pub mod Steps
 pub mod Walks

@@ -190,3 +190,4 @@ pub use Rattle.rk_world.specs.declared.work.Served.{Served}
 pub use Rattle.rk_inv_wellformed.specs.Brought.{LONGEST_LEFT, MOST_BROUGHT, brought, brought_by, copied_bytes}
 pub use Rattle.rk_log.proofs.Cuts.{length-le-bytes, spelled_some, cut_filled}
 pub use Rattle.rk_table.proofs.Changes.{order_live, order_after, order_without}
+pub use Rattle.rk_log.proofs.CutLaws.{spelled_none, spelled_push}

@@ -1,11 +1,10 @@
 -- A lane stays sound when a client asks a call, where its last one, if any, is older and accepted: nothing of the client is staged then.
 use Rattle.rk_inv_base.proofs.Words.{◌≡◌, ℕ, ◌<◌, true, List, [], ◌∷◌, ◌++◌, Option, Some, refl, sym, ◌∙◌, subst, inr, arith, IfSome}
-use Rattle.rk_inv_base.proofs.Words.{unwrap_or, All, length, All-head, All-tail, All-weaker, list_any_at, get_other, get_same}
-use Rattle.rk_inv_base.proofs.Words.{Call, Range, live_after, Entry, Row, Request, base_map, item_end, items_of, refusal_end, Ledger}
-use Rattle.rk_inv_base.proofs.Words.{asked_by, with_asked, call_of, World, LastCall, IsAccepted, IsLastCall, RequestFits, WasAsked}
-use Rattle.rk_inv_base.proofs.Words.{IsEntryOf, IsLast, IsLastAsked, IsRest, IsStaged, Waits, call_ends, record_of_last, records_of, put}
-use Rattle.rk_inv_base.proofs.Words.{View, view, truths, rests, AskedOf, RestOf, SoundView, TruthOf, Message, get, MayAsk, call_asked}
-use Rattle.rk_inv_base.proofs.Words.{call_asked_in}
+use Rattle.rk_inv_base.proofs.Words.{unwrap_or, All, length, All-head, All-tail, All-weaker, list_any_at, get_other, get_same, Call, Range}
+use Rattle.rk_inv_base.proofs.Words.{live_after, Entry, Row, Request, base_map, item_end, items_of, refusal_end, Ledger, asked_by}
+use Rattle.rk_inv_base.proofs.Words.{with_asked, call_of, World, LastCall, IsAccepted, IsLastCall, RequestFits, WasAsked, IsEntryOf, IsLast}
+use Rattle.rk_inv_base.proofs.Words.{IsLastAsked, IsRest, IsStaged, Waits, call_ends, record_of_last, records_of, put, View, view, truths}
+use Rattle.rk_inv_base.proofs.Words.{rests, AskedOf, RestOf, SoundView, TruthOf, Message, get, MayAsk, call_asked, call_asked_in}
 use Rattle.rk_entry.specs.declared.entry.Entry.TheVariants as entries
 use Rattle.rk_inv_base.proofs.Base.{of_waiting, all_in, put_by, put_is, put_other, row_in}
 use Rattle.rk_inv_base.proofs.calls.OtherJournals.{is_request_by, request_says_by}

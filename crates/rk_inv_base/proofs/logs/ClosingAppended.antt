@@ -1,16 +1,16 @@
 -- A lane stays sound when a target whose side segments are stored appends the entry that closes its joining.
-use Rattle.rk_inv_base.proofs.Words.{◌≡◌, ℕ, ◌≤◌, Bool, true, ◌&&◌, eqb, leb, List, [], ◌∷◌, ◌++◌, length, fold, Some, None, refl, sym, ap}
-use Rattle.rk_inv_base.proofs.Words.{◌∙◌, subst, ⊎_elim, arith, slice_get, All, Contains, flat_map, append-nil, slice_index_or, cases_eq}
-use Rattle.rk_inv_base.proofs.Words.{cond-true, false≢true, both_ways, nat_tests, flat_map-append, All-head, All-tail, Contains-get_or, get}
-use Rattle.rk_inv_base.proofs.Words.{meets, Member, Range, slice_get_push_cases, Entry, is_in, Handover, lineage_of, Row, items_of, last_of}
-use Rattle.rk_inv_base.proofs.Words.{unmarked_from, named, named_by, side_entries, with_number, has_all, is_absent, with_handover}
-use Rattle.rk_inv_base.proofs.Words.{closing_appended, World, log_in, master_at, tablet_in, Written, member_material, member_truth, bond_of}
-use Rattle.rk_inv_base.proofs.Words.{post_of, IsTarget, MembersFit, NamedFit, closing_joined, is_granted, named_items, EachHasCall}
-use Rattle.rk_inv_base.proofs.Words.{is_call_entry, IsPlaced, as_closed, View, view, SoundView, has_merged, is_idle, is_rebuilding}
-use Rattle.rk_inv_base.proofs.Words.{is_serving, is_wanting, may_have_staged, wanted_place, MayJoin, closed_off, closing_appended_in}
+use Rattle.rk_inv_base.proofs.Words.{◌≡◌, ℕ, ◌≤◌, Bool, true, List, [], ◌∷◌, ◌++◌, length, fold, Some, None, refl, sym, ap, ◌∙◌, subst}
+use Rattle.rk_inv_base.proofs.Words.{⊎_elim, arith, slice_get, All, Contains, flat_map, append-nil, slice_index_or, cases_eq, cond-true}
+use Rattle.rk_inv_base.proofs.Words.{false≢true, both_ways, flat_map-append, All-head, All-tail, Contains-get_or, get, meets, Member, Range}
+use Rattle.rk_inv_base.proofs.Words.{slice_get_push_cases, Entry, is_in, Handover, lineage_of, Row, items_of, last_of, unmarked_from, named}
+use Rattle.rk_inv_base.proofs.Words.{named_by, side_entries, with_number, has_all, is_absent, with_handover, closing_appended, World}
+use Rattle.rk_inv_base.proofs.Words.{log_in, master_at, tablet_in, Written, member_material, member_truth, bond_of, post_of, IsTarget}
+use Rattle.rk_inv_base.proofs.Words.{MembersFit, NamedFit, closing_joined, is_granted, named_items, EachHasCall, is_call_entry, IsPlaced}
+use Rattle.rk_inv_base.proofs.Words.{as_closed, View, view, SoundView, has_merged, is_idle, is_rebuilding, is_serving, is_wanting}
+use Rattle.rk_inv_base.proofs.Words.{may_have_staged, wanted_place, MayJoin, closed_off, closing_appended_in}
 use Rattle.rk_transfer.specs.declared.role.Role.TheVariants as roles
 use Rattle.rk_inv_base.proofs.Base.{SoundRow, row_in, tablet_here, tablet_apart, put2_by, put_same, put2_same, view_master}
-use Rattle.rk_inv_base.proofs.Base.{last_member, marked_none, unmarked_from_last, unless_marked, same_number, numbers_append}
+use Rattle.rk_inv_base.proofs.Base.{has_itself, last_member, marked_none, unmarked_from_last, unless_marked, same_number, numbers_append}
 use Rattle.rk_inv_base.proofs.logs.ClosingTarget.{target_here}
 use Rattle.rk_inv_base.proofs.logs.EntryAppended.{row_beside, view_with_entry, waits_on}
 use Rattle.rk_inv_base.proofs.logs.OneMore.{material_same, of_written, rest_at, truth_same, within}
@@ -71,12 +71,6 @@ module _ (v : View) (row : Row) (master : ℕ) (sound : SoundView v) (has_row : 
       (both_ways (meets row.range x.range) (row_beside v row x sound has_row has apart)
       (meets_either x.range row.range (ap (meets x.range) (sym ranged) ∙ met))))
       (cases_eq x.tablet row.tablet)
-    where
-      itself : (t f l : ℕ) → (eqb t t && leb f f && leb l l) ≡ true
-      itself t f l = grind (arith, nat_tests)
-
-      has_itself : (range : Range) → has_all range range ≡ true
-      has_itself range = itself range.table range.first range.last
 
   -- ---- the target of the row, which has its closing entry now
 

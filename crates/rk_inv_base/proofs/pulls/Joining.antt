@@ -1,13 +1,12 @@
 -- What a target that joins is to its row, and how what it copied tells what its source has.
-use Rattle.rk_inv_base.proofs.Words.{arith, ◌≡◌, ℕ, ◌<◌, ◌⊎◌, Bool, true, false, cond, List, [], ◌∷◌, ◌++◌, filter, fold, Option, Some}
-use Rattle.rk_inv_base.proofs.Words.{None, refl, sym, ap, ◌∙◌, subst, ⊎_elim, inl, inr, ◌==◌, Contains, flat_map, eq-eqb, eqb-true}
-use Rattle.rk_inv_base.proofs.Words.{cond_both, false≢true, flat_map-append, Contains-append_cases, Contains-append_left}
-use Rattle.rk_inv_base.proofs.Words.{Contains-append_right, Held, Member, is_among, Entry, lineage_of, Phase, Owned, Opening, Moving}
-use Rattle.rk_inv_base.proofs.Words.{Rebuilding, items_in, items_of, is_member, with_number, Post, MovingSource, MovingTarget, Bystander}
-use Rattle.rk_inv_base.proofs.Words.{bond_of, post_of, rebuilder_post, target_post, Holds, scan_items, IsFormed, filter_passes}
-use Rattle.rk_inv_base.proofs.Words.{All-contains}
+use Rattle.rk_inv_base.proofs.Words.{arith, ◌≡◌, ℕ, ◌<◌, ◌⊎◌, Bool, true, false, cond, List, [], ◌∷◌, filter, fold, Option, Some, None}
+use Rattle.rk_inv_base.proofs.Words.{refl, sym, ◌∙◌, ⊎_elim, inl, inr, ◌==◌, Contains, flat_map, eq-eqb, eqb-true, cond_both, false≢true}
+use Rattle.rk_inv_base.proofs.Words.{Held, Member, Entry, lineage_of, Phase, Owned, Opening, Moving, Rebuilding, items_in, items_of}
+use Rattle.rk_inv_base.proofs.Words.{is_member, with_number, Post, MovingSource, MovingTarget, Bystander, bond_of, post_of, rebuilder_post}
+use Rattle.rk_inv_base.proofs.Words.{target_post, Holds, scan_items, IsFormed, filter_passes, All-contains}
 use Rattle.rk_transfer.specs.declared.role.Role.TheVariants as roles
 use Rattle.rk_tablet_map.specs.Phase.{member as member_at}
+use Rattle.rk_inv_base.proofs.views.Among.{from_flat, number_from, to_flat}
 use Rattle.rk_inv_base.proofs.calls.Records.{filter_from, filter_stands, scanned_from}
 
 -- a master is the second of two members of a lineage; where it is to rebuild the row, it keeps a smaller term
@@ -77,25 +76,11 @@ module _ (sides : ℕ → List Entry) where
   abbrev pub items_at : List ℕ → List Held
   items_at numbers = items_of (flat_map sides numbers)
 
-  parts : (a b : List ℕ) → items_at (a ++ b) ≡ items_at a ++ items_at b
-  parts a b = ap items_of (flat_map-append sides a b) ∙ flat_map-append items_in (flat_map sides a) (flat_map sides b)
-
   -- an item of numbers to which others were added is one of either
   pub numbered : (some others : List ℕ) (item : Held) → Contains (items_at (fold with_number some others)) item → Contains (items_at some) item ⊎ Contains (items_at others) item
-  numbered some [] item at = inl at
-  numbered some (number ∷ others) item at =
-      ⊎_elim
-      (λ (one : Contains (items_at (with_number some number)) item).
-      cond_both (is_among number some) some (some ++ number ∷ [])
-      (λ next. Contains (items_at next) item → Contains (items_at some) item ⊎ Contains (items_at (number ∷ others)) item)
-      (λ e there. inl there)
-      (λ e there.
-      ⊎_elim (λ (before : Contains (items_at some) item). inl before)
-      (λ (new : Contains (items_at (number ∷ [])) item).
-      inr (rw (parts (number ∷ []) others) (Contains-append_left (items_at (number ∷ [])) (items_at others) item new)))
-      (Contains-append_cases (items_at some) (items_at (number ∷ [])) item
-      (subst (λ (all : List Held). Contains all item) (parts some (number ∷ [])) there)))
-      one)
-      (λ (later : Contains (items_at others) item).
-      inr (rw (parts (number ∷ []) others) (Contains-append_right (items_at (number ∷ [])) (items_at others) item later)))
-      (numbered (with_number some number) others item at)
+  numbered some others item at =
+      let of = from_flat items_in (flat_map sides (fold with_number some others)) item at in
+      let number = from_flat sides (fold with_number some others) of.0 of.1 in
+      let among : (numbers : List ℕ) → Contains numbers number.0 → Contains (items_at numbers) item = λ numbers there.
+      to_flat items_in (flat_map sides numbers) of.0 item (to_flat sides numbers number.0 of.0 there number.2) of.2 in
+      ⊎_elim (λ there. inl (among some there)) (λ there. inr (among others there)) (number_from some others number.0 number.1)

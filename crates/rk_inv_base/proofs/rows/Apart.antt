@@ -1,11 +1,15 @@
 -- Rows of a tablet map: a number names one of them, and a key lies in one of them.
 use Rattle.rk_inv_base.proofs.Words.{◌≡◌, ℕ, true, false, List, [], ◌∷◌, sym, ap, subst, ◌∙◌, ⊎_elim, arith, ◌⊎◌, inl, inr, Contains}
 use Rattle.rk_inv_base.proofs.Words.{nat_tests, All-from_recursion, All-contains, meets, Range, Precedes, IsTabletMap, Row, has_key}
-use Rattle.rk_inv_base.proofs.Words.{stands_cases, false≢true, false_from_ne_true}
+use Rattle.rk_inv_base.proofs.Words.{stands_cases, false≢true, false_from_ne_true, has_all, eqb, leb}
 
 -- one of a list with a first one is the first, or one of the others
 pub contains_cases : {X : Type 0} (first : X) (others : List X) (x : X) → Contains (first ∷ others) x → (first ≡ x) ⊎ Contains others x
 contains_cases first others x at = stands_cases first others x at
+
+-- a range has all of itself
+pub has_itself : (range : Range) → has_all range range ≡ true
+has_itself range = grind (arith, eqb, leb, nat_tests, range.table, range.first, range.last)
 
 -- two rows are one, or one of them precedes the other
 pub one_precedes : (rows : List Row) (a b : Row) → IsTabletMap rows → Contains rows a → Contains rows b → (a ≡ b) ⊎ Precedes a b ⊎ Precedes b a

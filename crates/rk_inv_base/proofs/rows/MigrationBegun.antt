@@ -1,8 +1,7 @@
 -- A row that is owned may be turned when it begins to move to another master that is there, at the next term.
-use Rattle.rk_inv_base.proofs.Words.{◌≡◌, ℕ, ◌+◌, Bool, true, cond, eqb, None, sym, ap, subst, ◌∙◌, ⊎_elim, arith, eqb-true, or_cases}
-use Rattle.rk_inv_base.proofs.Words.{Role, lineage_of, Phase, Opening, Row, names, IsMaster, MayTakePost, MayTurn, Post, Owner}
-use Rattle.rk_inv_base.proofs.Words.{OpeningSource, InvitedTarget, Bystander, post_of, bond_of, Holds, StillCounts, View, SoundView}
-use Rattle.rk_inv_base.proofs.Words.{MayMigrate}
+use Rattle.rk_inv_base.proofs.Words.{◌≡◌, ℕ, ◌+◌, Bool, true, cond, eqb, None, sym, ap, subst, ◌∙◌, ⊎_elim, arith, eqb-true, or_cases, Role}
+use Rattle.rk_inv_base.proofs.Words.{lineage_of, Phase, Opening, Row, names, IsMaster, MayTakePost, MayTurn, Post, Owner, OpeningSource}
+use Rattle.rk_inv_base.proofs.Words.{InvitedTarget, Bystander, post_of, bond_of, Holds, StillCounts, View, SoundView, MayMigrate}
 use Rattle.rk_inv_base.proofs.Base.{IsEarly, at_most, counted_before, none_closes, none_marked, none_rebuilds, SoundRow, row_in}
 
 -- ---- posts at the next term

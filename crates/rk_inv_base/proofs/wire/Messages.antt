@@ -1,15 +1,11 @@
 -- Laws of the part Messages: what a message that is sent, and tablets that look the same, keep of it.
-use Rattle.rk_inv_base.proofs.Words.{false, sym, subst, ◌∙◌, ◌≡◌, ◌≤◌, ℕ, Bool, List, [], ◌∷◌, Option, slice_index_or, flat_map, arith}
-use Rattle.rk_inv_base.proofs.Words.{true, length, Some, ◌<◌, get, Ended, Member, Node, Segments, Entry, at_hash, batch_at, next_token}
-use Rattle.rk_inv_base.proofs.Words.{Completions, Handover, Phase, Row, nothing, Log, known_of, EntryEnd, BATCH_BYTES, Grant, Prepare}
-use Rattle.rk_inv_base.proofs.Words.{Tenure, Transfer, Body, Got, Pulled, CopySegment, Rebuild, Rebuilt, Handed, as_entries, Written}
-use Rattle.rk_inv_base.proofs.Words.{stored_of, IfMaster, ByMaster, IsOfTarget, PrepareFits, CloseFits, RebuildFits, IsOwner, ReleaseFits}
-use Rattle.rk_inv_base.proofs.Words.{TransferIn, JoinedIn, RebuiltIn, GrantAgrees, IsFromSource, PulledAgrees, GotAgrees, CopyIn, post_of}
-use Rattle.rk_inv_base.proofs.Words.{NeededOf, scan_items, View, MessagesOf, is_wanting, Message}
+use Rattle.rk_inv_base.proofs.Words.{false, sym, subst, ◌∙◌, ◌≡◌, ◌≤◌, ℕ, Bool, List, [], ◌∷◌, Option, flat_map, arith, true, length, Some}
+use Rattle.rk_inv_base.proofs.Words.{◌<◌, get, Member, Node, Entry, at_hash, batch_at, next_token, Handover, Row, Log, EntryEnd}
+use Rattle.rk_inv_base.proofs.Words.{BATCH_BYTES, Grant, Prepare, Tenure, Body, Got, Pulled, Rebuild, Handed, as_entries, Written, IfMaster}
+use Rattle.rk_inv_base.proofs.Words.{ByMaster, IsOfTarget, PrepareFits, CloseFits, RebuildFits, ReleaseFits, GrantAgrees, IsFromSource}
+use Rattle.rk_inv_base.proofs.Words.{PulledAgrees, GotAgrees, NeededOf, scan_items, View, MessagesOf, is_wanting, Message}
 use Rattle.rk_types.specs.declared.node.Node.TheVariants as nodes
-use Rattle.rk_outside.specs.Segments.{bytes_of as copied_bytes}
-use Rattle.rk_inv_base.proofs.views.Seen.{LooksAs, AllLook}
-use Rattle.rk_inv_base.proofs.views.Needed.{part_weaker}
+use Rattle.rk_inv_base.proofs.views.Seen.{AllLook}
 use Rattle.rk_inv_base.proofs.views.ByRows.{SaysIn}
 
 -- what is said where a node is a master, it says as well where that follows
@@ -44,17 +40,6 @@ module _ (row : Row) (old new : Handover) (live : Bool) (master : ℕ) (rises : 
   pub grant_rises : (handed : Option Handed) (grant : Grant) → (is_wanting new.role ≡ true → (new.term ≡ old.term) × (is_wanting old.role ≡ true)) → GrantAgrees row old live handed master grant → GrantAgrees row new live handed master grant
   grant_rises handed grant waited agrees = grind arith
 
--- ---- reports
-
-pub transfer_looks : (phase : Phase) (old new : Handover) (completions : Completions) (term master : ℕ) (transfer : Transfer) → LooksAs old new → TransferIn phase old completions term master transfer → TransferIn phase new completions term master transfer
-transfer_looks phase old new completions term master transfer looks says = grind arith
-
-pub joined_looks : (phase : Phase) (old new : Handover) (applied applied' term master : ℕ) → LooksAs old new → applied' ≡ applied → JoinedIn phase old applied term master → JoinedIn phase new applied' term master
-joined_looks phase old new applied applied' term master looks same says = grind arith
-
-pub rebuilt_looks : (phase : Phase) (old new : Handover) (merged : List Ended) (applied applied' term master : ℕ) (rebuilt : Rebuilt) → LooksAs old new → applied' ≡ applied → RebuiltIn phase old merged applied term master rebuilt → RebuiltIn phase new merged applied' term master rebuilt
-rebuilt_looks phase old new merged applied applied' term master rebuilt looks same says = grind arith
-
 -- ---- between source and target
 
 -- what is said of a target that pulls, and to it, where each tablet looks as before
@@ -88,10 +73,6 @@ NeedNoMore written written' live =
     (row : Row) (lineage : List Member) (q : ℕ) → live q ≡ false → (end : EntryEnd) → NeededOf row written' lineage q end
     → NeededOf row written lineage q end
 
-module _ (logs logs' : ℕ → Log) (written written' : ℕ → Written) (stored : ℕ → Segments) (live : ℕ → Bool) (copy : CopySegment) (same : (logs' copy.master).known ≡ (logs copy.master).known) (less : NeedNoMore written written' live) where
-  copy_looks : (row : Row) (phase : Phase) → CopyIn row phase logs written stored live copy → CopyIn row phase logs' written' stored live copy
-  copy_looks row phase says = grind (arith, part_weaker, known_of, stored_of, copied_bytes, slice_index_or, nothing)
-
 -- ---- all kinds
 
 -- what a message says of a row, it says where each tablet looks as before, and backups are known to hold as much
@@ -108,9 +89,6 @@ module _ (v : View) (logs' : ℕ → Log) (written' : ℕ → Written) (handover
 
   rises : (row : Row) (m : ℕ) → (had row m).term ≤ (has row m).term
   rises row m = let same = (looks.each m row.tablet).term in omega (arith, same)
-
-  owner_looks : (row : Row) (m term : ℕ) → ((had row m).term ≡ term → IsOwner (post_of row.phase m) (had row m).term row.term) → (has row m).term ≡ term → IsOwner (post_of row.phase m) (has row m).term row.term
-  owner_looks row m term owner at = grind (arith, post_of)
 
   pub says_of_looks : (row : Row) (from to : Node) (body : Body) → SaysIn v row from to body → SaysIn after row from to body
   says_of_looks row from to body =

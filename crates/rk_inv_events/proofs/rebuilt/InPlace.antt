@@ -11,9 +11,9 @@ use Rattle.rk_inv_base.proofs.Words.{Contains-append_left, Contains-append_right
 use Rattle.rk_inv_base.proofs.Words.{LastCall, Placed, Range, ReachAll, TellAll, as_entries, base_map, behind_stands, copies_of}
 use Rattle.rk_inv_base.proofs.Words.{first_stands, floor_of, is_mutation, is_record_in, item_end, items_in, items_of, map_after}
 use Rattle.rk_inv_base.proofs.Words.{none_stands, of_key, record_of, stands_cases, tells_of, told, told_by}
-use Rattle.rk_inv_rows.proofs.lineage.FloorsOf.{floor_among, one_within}
+use Rattle.rk_inv_base.proofs.logs.FloorsOf.{floor_among, one_within}
 use Rattle.rk_inv_logs.proofs.apply.JoinedApplied.{item_entry}
-use Rattle.rk_inv_logs.proofs.apply.MergedEnds.{mapped}
+use Rattle.rk_inv_base.proofs.views.Among.{mapped}
 use Rattle.rk_inv_events.proofs.Words.{HasBoth, TellHistory, all_by, filter_from, filter_stands, from_flat, to_flat}
 use Rattle.rk_inv_events.proofs.rebuilt.Newest.{copy_of_all, live_same, target_plain}
 use Rattle.rk_inv_tablets.proofs.crash.MergeTells.{item_told}

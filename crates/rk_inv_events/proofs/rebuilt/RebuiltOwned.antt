@@ -10,7 +10,7 @@ use Rattle.rk_inv_base.proofs.Words.{ends_of, flat_map-append, items_in, items_o
 use Rattle.rk_inv_base.proofs.Words.{own_place, rests, row_at, stands_cases, told, told_by, truths}
 use Rattle.rk_inv_rows.proofs.lineage.Histories.{history_of}
 use Rattle.rk_inv_rows.proofs.lineage.RebuiltMaterial.{at as rebuilt_here, merged_is}
-use Rattle.rk_inv_logs.proofs.apply.MergedEnds.{mapped}
+use Rattle.rk_inv_base.proofs.views.Among.{mapped}
 use Rattle.rk_inv_logs.specs.read.ReadBack.{IsReadBack, TellInOrder, all_of}
 use Rattle.rk_inv_events.proofs.Words.{MakeRecords, MayOwnRebuilt, TellHistory, all_by, flat_among, journal_with, made_of, marks_taken}
 use Rattle.rk_inv_events.proofs.Words.{now_done, own_done, row_rebuilt, to_flat, truth_from, truth_has_own, truth_has_piece}

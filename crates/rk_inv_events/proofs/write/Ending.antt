@@ -27,7 +27,7 @@ use Rattle.rk_done.specs.Completions.{look_of}
 use Rattle.rk_model.specs.History.{record_of as map_record_of}
 use Rattle.rk_model.specs.Machine.{Entry as MapEntry}
 use Rattle.rk_inv_base.proofs.calls.Counters.{counter_low}
-use Rattle.rk_inv_rows.proofs.lineage.FloorsOf.{floor_among}
+use Rattle.rk_inv_base.proofs.logs.FloorsOf.{floor_among}
 use Rattle.rk_inv_logs.proofs.apply.AppliedCounters.{key_floor, low_inserted}
 use Rattle.rk_inv_logs.proofs.apply.Inserted.{inserted_last}
 use Rattle.rk_inv_events.proofs.Words.{All_pairs, HasCall, MayEndIn, all_by, by_found, change_by, ends_from_pairs, filter_from, flat_among}

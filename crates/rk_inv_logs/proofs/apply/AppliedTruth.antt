@@ -4,8 +4,7 @@ use Rattle.rk_inv_base.proofs.Words.{cases_Bool, cond-true, cond-false, flat_map
 use Rattle.rk_inv_base.proofs.Words.{with_change, Entry, newest_is, newer_item, newest_from-append, with_newer_here, with_newer_other}
 use Rattle.rk_inv_base.proofs.Words.{is_of_from, is_of_parts, record_of, is_of, newest, none_found, map_entry_of, items_in, items_of}
 use Rattle.rk_inv_base.proofs.Words.{IsAboveAll, IsEntryOf}
-use Rattle.rk_inv_logs.proofs.Words.{record_put, append_nil}
-use Rattle.rk_model.specs.History.{record_of as map_record_of, with_entry}
+use Rattle.rk_inv_logs.proofs.Words.{record_put, append_nil, map_record_of, with_entry}
 use Rattle.rk_overlay.specs.Live.{live as live_items}
 use Rattle.rk_inv_logs.proofs.apply.Applying.{change_by}
 use Rattle.rk_inv_logs.proofs.apply.Inserted.{AreNewest, IsInserted, newest_inserted}

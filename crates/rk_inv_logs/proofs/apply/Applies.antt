@@ -9,12 +9,13 @@ use Rattle.rk_inv_base.proofs.Words.{Moving, Rebuilding, Row, known_of, committe
 use Rattle.rk_inv_base.proofs.Words.{items_in, items_of, by_member, merge, own_place, is_absent, Written, member_material, member_truth}
 use Rattle.rk_inv_base.proofs.Words.{Mark, Merged, MayApply, IsEntryWithin, IsItemWithin, is_wanting, stored_of, CopyIn, GotAgrees}
 use Rattle.rk_inv_base.proofs.Words.{PulledAgrees, RebuiltIn, SaysOf, HasJoined, HasRebuilt, post_of, bond_of, Holds, IsRebuilder, MarkFits}
-use Rattle.rk_inv_base.proofs.Words.{MarkedFit, NeededOf, READ_BACKUP, RowIsRebuilt, merged_place, IsPieceOf, IsBare, IsFound, IsTarget}
-use Rattle.rk_inv_base.proofs.Words.{MembersFit, NamedFit, is_granted, wanted_place, named_items, View, truths, SoundView, CoverOf, LogsOf}
-use Rattle.rk_inv_base.proofs.Words.{Call, NumberMap, Placed, IsKnown, IsStagedEnd, told, IsInScanOrder, Waits, EachIn, AreAboveMap}
+use Rattle.rk_inv_base.proofs.Words.{NeededOf, READ_BACKUP, RowIsRebuilt, merged_place, IsPieceOf, IsBare, IsFound, IsTarget, MembersFit}
+use Rattle.rk_inv_base.proofs.Words.{NamedFit, is_granted, wanted_place, named_items, View, truths, SoundView, CoverOf, LogsOf, Call}
+use Rattle.rk_inv_base.proofs.Words.{NumberMap, Placed, IsKnown, IsStagedEnd, told, IsInScanOrder, Waits, EachIn, AreAboveMap}
 use Rattle.rk_inv_base.proofs.Words.{AreHandedOver, FirstIsDone, HandedFits, Handed, HasItems, OnlyIsUnnamed, ReachAll, TellAll, base_map}
 use Rattle.rk_inv_base.proofs.Words.{beginning_in, ends_of, floor_of, handed_by, handed_for_grant, has_all_items, is_joined_in, joined_from}
-use Rattle.rk_inv_base.proofs.Words.{last_of, list_any, map_after, rests, target_truth, touches, member_given_up}
+use Rattle.rk_inv_base.proofs.Words.{last_of, list_any, map_after, rests, target_truth, touches, member_given_up, order_after, is_idle}
+use Rattle.rk_inv_base.proofs.Words.{Message}
 use Rattle.rk_inv_logs.proofs.Words.{all_by, by_master, if_master, part_weaker, rebuilder_weaker, put_by, newer_cases, Bond, Closed, Both}
 use Rattle.rk_inv_logs.proofs.Words.{Either, IsGatherOf, CountsFor, SoundBeside, SoundRow, SpeaksFor, row_in, view_by_rows, TellHistory}
 use Rattle.rk_tablet_map.specs.Phase.{member as member_at}
@@ -29,7 +30,6 @@ use Rattle.rk_entry.specs.declared.entry.Entry.TheVariants as entries
 use Rattle.rk_message.specs.declared.message.Body.TheVariants as bodies
 use Rattle.rk_transfer.specs.declared.role.Role.TheVariants as roles
 use Rattle.rk_inv_logs.proofs.apply.Members as members
-use Rattle.rk_inv_base.proofs.Words.{order_after}
 
 -- ---- data
 
@@ -282,9 +282,6 @@ module _ (v : View) (b : Applies v) where
       (λ q. known_of (v.logs q) READ_BACKUP) (λ q. stored_of v.stored q READ_BACKUP) w (v.handovers to other.tablet) ends
       (v.gathers to other.tablet) (v.merged to other.tablet) records
 
-  marked_same : (range : Range) (lineage : List Member) → MarkedFit v.logs v.written v.stored v.live range lineage → MarkedFit v.logs now.written v.stored v.live range lineage
-  marked_same range _ fit = fit
-
   module _ (other : Row) (has : Contains v.rows other) (still : (x : Held) → Contains (items_of (truths v other)) x → Contains (items_of (truths now other)) x) where
     rebuilder_here : (lineage : List Member) → other.phase ≡ Rebuilding lineage b.master → (v.handovers b.master other.tablet).term ≡ other.term → (Needed : ℕ → EntryEnd → Type 0)
         → IsRebuilderBy other lineage b.master (truths v other) Needed (v.written b.master) (v.completions b.master other.tablet) (v.records b.master)
@@ -364,7 +361,7 @@ module _ (v : View) (b : Applies v) where
           (v.gathers to other.tablet) (v.merged to other.tablet) (now.records to)
           (λ q _ end needed. needs_same v b.master other lineage q end needed)
           (rebuilder_at lineage to is term (NeededOf other v.written lineage) (says.0 term)),
-      marked_same other.range lineage says.1,
+      says.1,
     )
     rebuilt_at _ is says = tt
 
@@ -404,48 +401,35 @@ module _ (v : View) (b : Applies v) where
   pub row_now : (row : Row) → Contains v.rows row → Tells v now row → SoundRow now row
   row_now row has tells =
       let was : SoundRow v row = row_in v b.sound row has in
-      record {
-        named = was.named;
-        begun = was.begun;
-        formed = was.formed;
-        placed = was.placed;
-        sent = was.sent;
-        fitting = λ q counts.
-            let kept = v.handovers q row.tablet in
-            holds_more (bond_of (post_of row.phase q) kept.role) row.term kept.term (v.written q).applied (now.written q).applied
-            (applied_grows q) (was.fitting q counts);
-        ranged = was.ranged;
-        at_term = was.at_term;
-        truth = tells.history.leaves;
-        above = tells.history.above;
-        reached = tells.history.ends;
-        recorded = tells.history.known;
-        moving = tells.moving;
-        answering = tells.answering;
-        ends_granted = tells.ends_granted;
-        ends_sent = tells.ends_sent;
-        low = tells.history.low;
-        low_moving = tells.low_moving;
-        counted = λ q counts says. next_now row tells (v.handovers q row.tablet).counter (was.counted q counts says);
-        floor_granted = IfSome_then (handed_for_grant row v.handovers v.handed) was.floor_granted (λ h. next_now row tells h.floor);
-        floor_sent = λ n m there.
-            IfSome_then (handed_by row v.handovers m.body) (was.floor_sent n m there) (λ h. next_now row tells h.floor);
-        goes_on = tells.history.goes_on;
-        done = done_at row has (lineage_of row.phase) refl was.done;
-        unnamed = unnamed_at row.range (lineage_of row.phase) was.unnamed;
-        idle = λ q counts idles.
+      let floor_granted : IfSome (handed_for_grant row v.handovers v.handed) (λ h. IsNextOf now row h.floor) =
+      IfSome_then (handed_for_grant row v.handovers v.handed) was.floor_granted (λ h. next_now row tells h.floor) in
+      let floor_sent : EachIn (λ n m. IfSome (handed_by row v.handovers m.body) (λ h. IsNextOf now row h.floor)) v.wire = λ n m there.
+      IfSome_then (handed_by row v.handovers m.body) (was.floor_sent n m there) (λ h. next_now row tells h.floor) in
+      let marks : (q : ℕ) → All (λ mark. mark.tablet ≡ row.tablet → MarkFits row q (v.handovers q row.tablet) (v.live q) (now.written q) mark) (v.written q).marks = λ q i mark inside its.
+      mark_same row q (slice_index_or (v.written q).marks i mark) (was.marks q i mark inside its) in
+      assumption (
+        was,
+        tells.history,
+        tells,
+        λ (q : ℕ) (counts : CountsFor v row q).
+            holds_more (bond_of (post_of row.phase q) (v.handovers q row.tablet).role) row.term (v.handovers q row.tablet).term
+            (v.written q).applied (now.written q).applied (applied_grows q) (was.fitting q counts),
+        λ (q : ℕ) (counts : CountsFor v row q) (says : SpeaksFor v row q).
+            next_now row tells (v.handovers q row.tablet).counter (was.counted q counts says),
+        floor_granted,
+        floor_sent,
+        done_at row has (lineage_of row.phase) refl was.done,
+        unnamed_at row.range (lineage_of row.phase) was.unnamed,
+        λ (q : ℕ) (counts : CountsFor v row q) (idles : is_idle (v.handovers q row.tablet).role ≡ true).
             let none = was.idle q counts idles in
             of_applied (λ n. list_any (touches row.range) (drop n (v.written q).entries) ≡ false) q
-            (λ at. none_fewer (touches row.range) (v.written q).applied (v.written q).entries none) (λ apart. none);
-        items = tells.items;
-        target = members_at row has (lineage_of row.phase) refl was.target;
-        handed_on = tells.handed_on;
-        named_items = named_at row has (lineage_of row.phase) refl was.named_items;
-        rebuilt = rebuilt_at row has tells.still row.phase refl was.rebuilt;
-        marks = λ q i mark inside its. mark_same row q (slice_index_or (v.written q).marks i mark) (was.marks q i mark inside its);
-        pieces = was.pieces;
-        says = λ n m there. says_now row has m.from m.to m.body (was.says n m there);
-      }
+            (λ at. none_fewer (touches row.range) (v.written q).applied (v.written q).entries none) (λ apart. none),
+        members_at row has (lineage_of row.phase) refl was.target,
+        named_at row has (lineage_of row.phase) refl was.named_items,
+        rebuilt_at row has tells.still row.phase refl was.rebuilt,
+        marks,
+        λ (n : ℕ) (m : Message) (there : get v.wire n ≡ Some m). says_now row has m.from m.to m.body (was.says n m there),
+      )
 
   pub view_applied : SoundBeside now → ((row : Row) → Contains v.rows row → Tells v now row) → SoundView now
   view_applied beside tells = view_by_rows now beside (all_by (SoundRow now) v.rows (λ row has. row_now row has (tells row has)))

@@ -6,17 +6,15 @@ use Rattle.rk_inv_base.proofs.Words.{cases_eq, All-head, Call, Ended, Op, Outcom
 use Rattle.rk_inv_base.proofs.Words.{lineage_of, Row, Base, map_entry_of, item_end, outcome_of, refusal_end, told_by, has_record}
 use Rattle.rk_inv_base.proofs.Words.{next_record, seen_of, is_member, last_of, is_marked, counts, named_by, has_key, LastCall, IsEntryOf}
 use Rattle.rk_inv_base.proofs.Words.{IsLast, IsLastAsked, IsStaged, Waits, call_end, RoleFits, AreApart, View, truths, rests, SoundView}
+use Rattle.rk_inv_base.proofs.Words.{post_of}
 use Rattle.rk_inv_logs.proofs.Words.{first_not_last, formed_apart, in_one_row, last_member, counts_call, names_call, speaker_of, row_in}
-use Rattle.rk_inv_logs.proofs.Words.{history_of, TellHistory}
+use Rattle.rk_inv_logs.proofs.Words.{history_of, TellHistory, quiet_others, same_number}
 use Rattle.rk_model.specs.Machine.{Entry as MapEntry}
-use Rattle.rk_inv_base.proofs.rows.Apart.{same_number}
 use Rattle.rk_inv_logs.specs.apply.Small.{MayApplyCall, call_applied}
 use Rattle.rk_inv_logs.proofs.apply.Inserted.{IsInserted, inserted_before, inserted_behind}
 use Rattle.rk_inv_logs.proofs.apply.Members.{IsStill, Takes, has_last, next_at, rest_grows, still, takes, truth_grows, truth_still}
 use Rattle.rk_types.specs.declared.call.End.TheVariants as ends
 use Rattle.rk_entry.specs.declared.entry.Entry.TheVariants as entries
-use Rattle.rk_inv_base.proofs.Words.{post_of}
-use Rattle.rk_inv_logs.proofs.Words.{quiet_others}
 
 -- ---- a call and its entry
 

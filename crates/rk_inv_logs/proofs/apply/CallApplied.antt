@@ -13,14 +13,14 @@ use Rattle.rk_inv_base.proofs.Words.{AreHandedOver, Ended, IsKnown, IsReached, R
 use Rattle.rk_inv_base.proofs.Words.{handed_for_grant, has_key, is_mutation, is_waiting, map_after, noted, rests, second_has, second_of}
 use Rattle.rk_inv_base.proofs.Words.{cases_Bool, eq_by_cmp, NumberMap, get_or, remove, Call, apply_entry, noting, with_applied, with_ended}
 use Rattle.rk_inv_base.proofs.Words.{outcome_of, asked_by, seen_of, with_all_served, with_record, Master, tablet_at, Tablet, no_tablet}
-use Rattle.rk_inv_base.proofs.Words.{Worked, World, log_in, master_at, tablet_in, with_ledger, with_master, put, put2, view, IsSound}
-use Rattle.rk_inv_base.proofs.Words.{SoundView, All-push, AreOneAccepted, AskedOf, EachHasCall, EachIn, IsAfterSeen, IsAfterStart, IsLast}
-use Rattle.rk_inv_base.proofs.Words.{IsLastCall, LastCall, Outcome, Placed, WasAsked, Waits, hash_of, is_covered, lane_of_key, next_record}
-use Rattle.rk_inv_base.proofs.Words.{remove_less}
+use Rattle.rk_inv_base.proofs.Words.{World, log_in, master_at, tablet_in, with_ledger, with_master, put, put2, view, IsSound, SoundView}
+use Rattle.rk_inv_base.proofs.Words.{All-push, AreOneAccepted, AskedOf, EachHasCall, EachIn, IsAfterSeen, IsAfterStart, IsLast, IsLastCall}
+use Rattle.rk_inv_base.proofs.Words.{LastCall, Outcome, Placed, WasAsked, Waits, hash_of, is_covered, lane_of_key, next_record, remove_less}
+use Rattle.rk_inv_base.proofs.Words.{Message}
 use Rattle.rk_inv_logs.proofs.Words.{put_by, all_by, append_nil, speaker_is, SoundRow, row_in, last_stands, filter_stands, history_of}
 use Rattle.rk_inv_logs.proofs.Words.{flat_of, free_stands, counts_call, ended_call, put2_same, put_same, view_master, SoundBeside}
 use Rattle.rk_inv_logs.proofs.Words.{covered_by, asked_still, got_cases, is_request_still, request_says_still, rising_push, says_still}
-use Rattle.rk_inv_logs.proofs.Words.{get_remove, get_removed}
+use Rattle.rk_inv_logs.proofs.Words.{get_remove, get_removed, key_beside, mapped, member_at}
 use Rattle.rk_inv_logs.proofs.apply.Applying.{Applying, after, apart_in, entry, inside, its_row, last_takes, still_beside, first_apart}
 use Rattle.rk_inv_logs.proofs.apply.Applying.{its_fits, its_member, its_range, its_speaker, key_outside, names, outside, place}
 use Rattle.rk_inv_logs.proofs.apply.Applying.{rest_beside_row, rest_here, row_cases, same_row, truth_beside_row, truth_here, applying}
@@ -31,9 +31,7 @@ use Rattle.rk_inv_logs.proofs.apply.CallHistory.{tell_here, tell_there, tells_it
 use Rattle.rk_inv_logs.specs.apply.Small.{with_item_of, MayApplyCall, entry_applied_in, worked_in}
 use Rattle.rk_inv_logs.proofs.apply.Inserted.{AreNewest, IsInserted, floor_inserted, inserted_behind, told_still}
 use Rattle.rk_inv_logs.proofs.apply.ItemPut.{table_apart, table_inserted, bare_with}
-use Rattle.rk_tablet_map.specs.Phase.{member as member_at}
-use Rattle.rk_inv_base.proofs.rows.Apart.{key_outside as key_beside}
-use Rattle.rk_inv_logs.proofs.apply.MergedEnds.{mapped, merged_reaches, noted_again}
+use Rattle.rk_inv_logs.proofs.apply.MergedEnds.{merged_reaches, noted_again}
 use Rattle.rk_inv_logs.proofs.apply.AppliedRest.{rest_counts}
 use Rattle.rk_inv_logs.proofs.apply.Stagers.{none_hands, none_waits, rebuilder_from, staging_present, staging_wants}
 use Rattle.rk_inv_logs.proofs.apply.Members.{applied_with}
@@ -137,9 +135,6 @@ module _ (v : View) (a : Applying v) where
   module _ (other : Row) (has : Contains v.rows other) (lineage : List Member) (phase_is : other.phase ≡ Rebuilding lineage a.master) (at_term : (v.handovers a.master other.tablet).term ≡ other.term) where
     abbrev kept : Handover
     kept = v.handovers a.master other.tablet
-
-    abbrev start : ℕ
-    start = own_place (v.handovers a.master other.tablet).role
 
     abbrev own : List Entry
     own = member_material v.written other.range (member_at a.master (own_place (v.handovers a.master other.tablet).role))
@@ -416,36 +411,26 @@ module _ (v : View) (a : Applying v) where
       }
 
   beside : SoundBeside (after v a)
-  beside = record {
-    numbered = a.sound.nodes.numbered;
-    backed = a.sound.nodes.backed;
-    known_backups = a.sound.nodes.known;
-    crashed = a.sound.nodes.crashed;
-    left = a.sound.nodes.left;
-    rows_apart = a.sound.rows.apart;
-    covered = All-push (λ placed. is_covered v.rows placed.call.table (hash_of placed.call.key) ≡ true) v.journal (new v a)
-        a.sound.rows.covered
-        (covered_by v.rows (its_row v a) a.call.table (hash_of a.call.key) a.waits.has_row a.waits.in_row);
-    kept = a.sound.terms.kept;
-    begun = a.sound.terms.begun;
-    apart = a.sound.terms.apart;
-    cover = cover_now v (applies v a);
-    has_row = a.sound.roles.known;
-    logs = logs_now v (applies v a);
-    legal = legal_now (serving v a);
-    rising = rising_push 0 v.journal (new v a) a.sound.truth.rising (omega arith);
-    seen = All-push (λ placed. IsAfterSeen (v.asked placed.call.client) placed) v.journal (new v a) a.sound.truth.seen
-        (after_seen (v.asked a.call.client) v.journal a.call (new v a).outcome);
-    once = once v a;
-    known = known_at v a;
-    waiting = λ q alive. waiting_at q (a.sound.rest.waiting q alive);
-    are_last = λ q alive. last_at q (a.sound.rest.are_last q alive);
-    found = λ q alive. found_at q (a.sound.rest.found q alive);
-    ordered = ordered_now v (applies v a);
-    bare = bare_now v (applies v a);
-    others = λ n m there. says_still v.journal (new v a ∷ []) m.to m.body (a.sound.messages.others n m there);
-    asked = asked;
-  }
+  beside = assumption (
+    a.sound,
+    All-push (λ placed. is_covered v.rows placed.call.table (hash_of placed.call.key) ≡ true) v.journal (new v a) a.sound.rows.covered
+        (covered_by v.rows (its_row v a) a.call.table (hash_of a.call.key) a.waits.has_row a.waits.in_row),
+    cover_now v (applies v a),
+    logs_now v (applies v a),
+    legal_now (serving v a),
+    rising_push 0 v.journal (new v a) a.sound.truth.rising (omega arith),
+    All-push (λ placed. IsAfterSeen (v.asked placed.call.client) placed) v.journal (new v a) a.sound.truth.seen
+        (after_seen (v.asked a.call.client) v.journal a.call (new v a).outcome),
+    once v a,
+    known_at v a,
+    λ (q : ℕ) (alive : v.live q ≡ true). waiting_at q (a.sound.rest.waiting q alive),
+    λ (q : ℕ) (alive : v.live q ≡ true). last_at q (a.sound.rest.are_last q alive),
+    λ (q : ℕ) (alive : v.live q ≡ true). found_at q (a.sound.rest.found q alive),
+    ordered_now v (applies v a),
+    bare_now v (applies v a),
+    λ (n : ℕ) (m : Message) (there : get v.wire n ≡ Some m). says_still v.journal (new v a ∷ []) m.to m.body (a.sound.messages.others n m there),
+    asked,
+  )
 
   pub view_with_call : SoundView (after v a)
   view_with_call = view_applied v (applies v a) beside (tells v a)
@@ -484,10 +469,6 @@ module _ (w : World) (a : Applying (view w)) where
     calls = remove (master_at w a.master).calls (master_at w a.master).applied;
   }
 
-  -- its work
-  abbrev worked : Worked
-  worked = apply_entry (master_at w a.master) (entry (view w) a)
-
   work_is : apply_entry (master_at w a.master) (entry (view w) a) ≡ ended_call (with_applied (record (master_at w a.master) { records = with_item_of (entry (view w) a) (master_at w a.master).records })) (master_at w a.master).applied a.call a.end
   work_is = (λ i. with_ended (with_applied (item_put m (entry v a) i)) m.applied (a.may.waits i) (a.ended.tells i))
 
@@ -495,9 +476,6 @@ module _ (w : World) (a : Applying (view w)) where
   recorded : with_all_served 0 w.ledger (ended_call (with_applied (record (master_at w a.master) { records = with_item_of (entry (view w) a) (master_at w a.master).records })) (master_at w a.master).applied a.call a.end).served
       ≡ with_record w.ledger a.call (outcome_of a.end.end) (seen_of (asked_by w.ledger a.call.client))
   recorded = rw (mutation v a, (its_last v a).unrecorded) refl
-
-  world_is : entry_applied_in w a.master (entry (view w) a) ≡ with_ledger (with_master w a.master changed) (with_record w.ledger a.call (outcome_of a.end.end) (seen_of (asked_by w.ledger a.call.client)))
-  world_is = ap (worked_in w a.master) work_is ∙ ap (with_ledger (with_master w a.master changed)) recorded
 
   -- ---- tablets
 
@@ -527,7 +505,7 @@ module _ (w : World) (a : Applying (view w)) where
   -- ---- what is seen
 
   pub view_is : view (entry_applied_in w a.master (entry (view w) a)) ≡ after (view w) a
-  view_is = ap view world_is
+  view_is = ap view (ap (worked_in w a.master) work_is ∙ ap (with_ledger (with_master w a.master changed)) recorded)
       ∙ ap (λ (seen : View). record seen { journal = w.ledger.journal ++ new v a ∷ [] })
       (view_master w a.master changed number tablet refl tablet_noted tablet_other
       ∙ (λ i. record v {

@@ -8,8 +8,7 @@ use Rattle.rk_inv_base.proofs.Words.{map_with, with_change, change_of, is_mutati
 use Rattle.rk_inv_base.proofs.Words.{record_of, Base, base_map, outcome_of, told, told_by, next_record, seen_of, of_key, tells_of, has_key}
 use Rattle.rk_inv_base.proofs.Words.{counts, LastCall, IsEntryOf, IsKnown, IsReached, Reaches, TellAll, is_record_in, AreAboveMap}
 use Rattle.rk_inv_base.proofs.Words.{IsLastAsked, IsStaged, call_ends, record_of_last, records_of}
-use Rattle.rk_inv_logs.proofs.Words.{record_for, known_still, all_by, TellHistory}
-use Rattle.rk_model.specs.History.{record_of as map_record_of}
+use Rattle.rk_inv_logs.proofs.Words.{record_for, known_still, all_by, TellHistory, map_record_of}
 use Rattle.rk_inv_logs.proofs.apply.AppliedCalls.{tell_then, told_of_key}
 use Rattle.rk_inv_logs.proofs.apply.AppliedCounters.{low_inserted, tells_its}
 use Rattle.rk_inv_logs.proofs.apply.AppliedRest.{all_staged}

@@ -1,19 +1,21 @@
 -- Lists of entries into which others came: what they tell more, where one entry came in that has the newest item of its key, and how the
 -- next entry of a log comes to what is applied.
 use Rattle.std.proofs.Common.{◌≡◌, Bool, List, [], ◌++◌, ap, sym, ◌∙◌, subst, inl, inr, ◌⊎◌, append_assoc, filter, Contains, flat_map, ℕ}
-use Rattle.std.proofs.Common.{◌+◌, ◌≤◌, ◌<◌, max, true, false, ◌∷◌, Some, refl, arith, fold, All, zero, suc, ◌-◌, cond, ◌||◌}
-use Rattle.std.proofs.Common.{length, drop, take, slice_get, drop-drop, length-take-le}
+use Rattle.std.proofs.Common.{◌+◌, ◌≤◌, ◌<◌, max, true, false, ◌∷◌, Some, refl, arith, fold, All, ◌-◌, length, drop, take, slice_get}
+use Rattle.std.proofs.Common.{length-take-le}
 use Rattle.rk_inv_base.proofs.Words.{Contains-append_cases, Contains-append_left, Contains-append_right, filter-append, Entry, cases_Bool}
 use Rattle.rk_inv_base.proofs.Words.{flat_map-append, All-contains, All-head, fold-append, Held, filter_kept, filter_left_out, newest_is}
 use Rattle.rk_inv_base.proofs.Words.{newer_item, newest_from-append, with_newer_here, with_newer_other, none_stands, stands_cases}
 use Rattle.rk_inv_base.proofs.Words.{is_of_from, is_of_parts, is_of, newest, none_found, IsPlain, items_in, items_of, floor_by, floor_of}
 use Rattle.rk_inv_base.proofs.Words.{AreAbove, IsAboveAll, first_stands, drop-append-le, get_or_from_slice_get, slice_get_within, list_any}
 use Rattle.rk_inv_base.proofs.Words.{Range, unmarked, unmarked_from, is_marked, counting, counts, material_of, named, named_by, Mark}
+use Rattle.rk_inv_base.proofs.Words.{list_any_none, false_from_ne_true}
+use Rattle.rk_inv_base.proofs.views.Lists.{none_kept, none_pass}
+use Rattle.rk_inv_rows.proofs.lineage.Among.{later_stands}
 use Rattle.rk_inv_logs.proofs.Words.{append_nil, flat_from, flat_of, newest_from-same, newest_from-stays, drop_more, take_more, drop_none}
-use Rattle.rk_inv_logs.proofs.Words.{named_same, unless_marked, unmarked_from_last}
+use Rattle.rk_inv_logs.proofs.Words.{named_same, unless_marked, unmarked_from_last, above_fewer, one_stands, all_by, filter_stands}
 use Rattle.rk_overlay.specs.Newest.{Found, newest_from, with_newer}
 use Rattle.rk_inv_base.proofs.logs.Floors.{floor_append}
-use Rattle.rk_inv_rows.proofs.lineage.TakenOver.{above_fewer}
 use Rattle.rk_entry.specs.declared.entry.Entry.TheVariants as entries
 
 -- a list has a block of entries more, at some place
@@ -143,10 +145,7 @@ module _ (entry : Entry) (old new : List Entry) (put : IsInserted entry old new)
     -- and nothing else is
     pub told_cases : (x : X) → Contains (flat_map f new) x → Contains (f entry) x ⊎ Contains (flat_map f old) x
     told_cases x at = let of = flat_from f new x at in elim (more_cases (more_one put) of.0 of.1) [
-      | inl its ↦ elim (stands_cases entry [] of.0 its) [
-        | inl is ↦ inl (subst (λ (e : Entry). Contains (f e) x) (sym is) of.2)
-        | inr none ↦ absurd (none_stands of.0 none)
-      ]
+      | inl its ↦ inl (subst (λ (e : Entry). Contains (f e) x) (sym (one_stands entry of.0 its)) of.2)
       | inr was ↦ inr (flat_of f old of.0 x was of.2)
     ]
 
@@ -183,9 +182,6 @@ floor_more entry old new put =
 
 -- an item that is above each other one of its key is the newest wherever it stands
 module _ (before behind rest : List Held) (item : Held) (above : IsAboveAll (before ++ behind) item) (table : ℕ) (key : List ℕ) where
-  found : Found
-  found = newest before
-
   -- what was found is older
   older : (list : List Held) → ((x : Held) → Contains list x → Contains (before ++ behind) x) → is_of table key item ≡ true → (old : Held) → newest list table key ≡ Some old → old.version < item.version
   older list within here old is =
@@ -294,30 +290,19 @@ above_inserted entry old new rest put above = above_fewer (items_of new) (items_
 
 -- none of fewer
 pub none_fewer : {X : Type 0} (p : X → Bool) (count : ℕ) (xs : List X) → list_any p (drop count xs) ≡ false → list_any p (drop (count + 1) xs) ≡ false
-none_fewer p count xs none = rw (drop-drop 1 count xs) at (tail (drop count xs) none)
-  where
-    either : (a b : Bool) → (a || b) ≡ false → b ≡ false
-    either true b is = absurd (cc is)
-    either false b is = is
-
-    tail : (xs : List _) → list_any p xs ≡ false → list_any p (drop 1 xs) ≡ false
-    tail [] none = refl
-    tail (x ∷ xs) none = either (p x) (list_any p xs) none
+none_fewer p count xs none =
+    list_any_none p (drop (count + 1) xs)
+    (all_by (λ x. p x ≡ false) (drop (count + 1) xs)
+    (λ x at. none_pass p (drop count xs) none x (later_stands count (count + 1) xs x (omega arith) at)))
 
 -- a test that nothing passes is passed by nothing further on
-none_behind : {X : Type 0} (p : X → Bool) (more : ℕ) (xs : List X) → filter p xs ≡ [] → filter p (drop more xs) ≡ []
-none_behind p zero xs none = none
-none_behind p (suc more) [] none = none
-none_behind {X} p (suc more) (x ∷ xs) none = none_behind p more xs (tail (p x) none)
-  where
-    tail : (b : Bool) → cond b (x ∷ filter p xs) (filter p xs) ≡ [] → filter p xs ≡ []
-    tail true is = absurd (cc is)
-    tail false is = is
-
 pub none_from : {X : Type 0} (p : X → Bool) (from later : ℕ) (xs : List X) → from ≤ later → filter p (drop from xs) ≡ [] → filter p (drop later xs) ≡ []
 none_from {X} p from later xs behind none =
-    let split : from + (later - from) ≡ later = omega (arith, behind) in
-    rw (drop-drop (later - from) from xs ∙ ap (λ (n : ℕ). drop n xs) split) at (none_behind p (later - from) (drop from xs) none)
+    none_kept p (drop later xs)
+    (all_by (λ x. p x ≡ false) (drop later xs)
+    (λ x at.
+    false_from_ne_true (p x)
+    (λ passes. none_stands x (rw none at (filter_stands p (drop from xs) x (later_stands from later xs x behind at) passes)))))
 
 -- ---- the next entry
 

@@ -8,13 +8,12 @@ use Rattle.rk_inv_base.proofs.Words.{counts, is_joined_in, joined_from, material
 use Rattle.rk_inv_base.proofs.Words.{member_material, member_rest, member_truth, NamedFit, FirstIsDone, IsEntryOf, OnlyIsUnnamed, AreApart}
 use Rattle.rk_inv_base.proofs.Words.{View, SoundView, last_of}
 use Rattle.rk_inv_logs.proofs.Words.{nil_from_length, formed_apart, Extends, still_contains, sides_extend, append_nil, unless_marked}
-use Rattle.rk_inv_logs.proofs.Words.{kept_stands, row_in, flat_from, named_from, named_of}
+use Rattle.rk_inv_logs.proofs.Words.{kept_stands, row_in, flat_from, named_from, named_of, unmarked_grow}
 use Rattle.rk_inv_logs.specs.apply.Small.{MayApplyUnmarked, entry_applied, with_one_applied}
 use Rattle.rk_inv_logs.proofs.apply.Members.{IsNextOf, IsStill, member_cases, stands_at, still, IsNamedItem, has_block, named_item}
 use Rattle.rk_inv_logs.proofs.apply.Members.{applied_named, held_of}
 use Rattle.rk_inv_logs.proofs.apply.Inserted.{dropped_next, unmarked_next}
 use Rattle.rk_inv_logs.proofs.apply.Passing.{Gains, Passing, gains_none, none_found, view_passed}
-use Rattle.rk_inv_logs.proofs.read.ReadMember.{unmarked_grow}
 use Rattle.rk_entry.specs.declared.entry.Entry.TheVariants as entries
 
 -- an item of entries stands among them

@@ -4,9 +4,8 @@ use Rattle.std.proofs.Common.{arith, ◌≡◌, ◌≤◌, List, [], ◌∷◌, 
 use Rattle.rk_inv_base.proofs.Words.{flat_map-append, All-contains, All-head, All-tail, Contains-append_cases}
 use Rattle.rk_inv_base.proofs.Words.{Contains-append_left, Contains-append_right, Ended, Held, Placed, Entry, none_stands, IsPlain, Base}
 use Rattle.rk_inv_base.proofs.Words.{items_in, items_of, told, told_by, floor_of, IsKnown, AreAbove, call_end, call_ends}
-use Rattle.rk_inv_logs.proofs.Words.{HaveSame, floor_among, flat_from, flat_of}
+use Rattle.rk_inv_logs.proofs.Words.{HaveSame, floor_among, flat_from, flat_of, plain_above}
 use Rattle.rk_inv_logs.proofs.apply.Inserted.{HasMore, more_cases, more_still, told_among}
-use Rattle.rk_inv_rows.proofs.lineage.TakenOver.{plain_above}
 
 -- ---- truth and rest
 

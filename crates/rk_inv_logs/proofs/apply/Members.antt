@@ -1,23 +1,21 @@
 -- What members of a lineage, targets and masters that rebuild have once the next entry of a log is applied: beside what they had, that
 -- entry, or the items that it names.
 use Rattle.std.proofs.Common.{◌≡◌, ℕ, ◌+◌, ◌≤◌, max, Bool, true, false, List, [], ◌∷◌, ◌++◌, Some, refl, sym, ap, ◌∙◌, inl, inr, ◌⊎◌, arith}
-use Rattle.std.proofs.Common.{slice_get, Option, take, Contains, drop, cond, subst, append_assoc, filter, map, ◌-◌, nat_lt, slice_index_or}
-use Rattle.std.proofs.Common.{flat_map}
+use Rattle.std.proofs.Common.{slice_get, Option, take, Contains, drop, subst, append_assoc, filter, ◌-◌, flat_map}
 use Rattle.rk_inv_base.proofs.Words.{cases_Bool, cases_eq, cases_lt, Member, Range, Entry, filter_kept, filter_left_out, Base, last_of}
 use Rattle.rk_inv_base.proofs.Words.{is_marked, unmarked, unmarked_from, counting, counts, material_of, named_by, side_entries}
 use Rattle.rk_inv_base.proofs.Words.{log_material, Written, applied_entries, lineage_rest, lineage_truth, member_rest, member_truth}
 use Rattle.rk_inv_base.proofs.Words.{AreApart, false≢true, Held, IsInScanOrder, Handover, Handed, items_in, items_of, touches, Pulling}
 use Rattle.rk_inv_base.proofs.Words.{applied_from, HasArrived, IsFound, IsReceived, IsTarget, copied_items, entries_from, scan_items}
-use Rattle.rk_inv_base.proofs.Words.{Contains-append_right, FIRST_SIDE_SEGMENT, is_in, first_stands, none_stands, named, flat_map-append}
-use Rattle.rk_inv_base.proofs.Words.{Contains-append_cases, Contains-append_left, Joined, stands_cases, named_items, Contains-push_cases}
+use Rattle.rk_inv_base.proofs.Words.{Contains-append_right, is_in, first_stands, none_stands, named, flat_map-append, Contains-append_cases}
+use Rattle.rk_inv_base.proofs.Words.{Contains-append_left, Joined, stands_cases, named_items, Contains-push_cases}
 use Rattle.rk_inv_logs.proofs.Words.{lineage_last, append_nil, unless_marked, put_by, put_here, put_other, stands_kept, sides_extend}
-use Rattle.rk_inv_logs.proofs.Words.{flat_of, kept_stands, flat_from, named_from, named_of, free_stands}
+use Rattle.rk_inv_logs.proofs.Words.{flat_of, kept_stands, flat_from, named_from, named_of, free_stands, side_held}
 use Rattle.rk_inv_logs.specs.apply.Small.{with_one_applied, with_item_of}
 use Rattle.rk_inv_logs.proofs.apply.Inserted.{IsInserted, material_beside, material_more, nothing_ahead, rest_next, unmarked_next}
 use Rattle.rk_inv_logs.proofs.apply.Inserted.{told_cases, told_new, told_still, counting_beside, counting_more, from_next, none_fewer}
 use Rattle.rk_inv_logs.proofs.apply.ItemPut.{found_with, item_cases, item_found}
 use Rattle.rk_inv_rows.proofs.lineage.TargetMaterial.{item_counts}
-use Rattle.rk_inv_logs.proofs.apply.MergedEnds.{mapped_from}
 use Rattle.rk_entry.specs.declared.entry.Entry.TheVariants as entries
 
 -- a member has what it had for a range
@@ -263,14 +261,6 @@ target_applied range w entry stands from source truth material handover pulling 
 
 -- ---- the items of side segments
 
--- an entry of one is an item
-side_item : (sides : List (List Held)) (number : ℕ) (e : Entry) → Contains (side_entries sides number) e → (h : Held) × (entries.Held h ≡ e)
-side_item sides number e = go (nat_lt number FIRST_SIDE_SEGMENT) (slice_index_or sides (number - FIRST_SIDE_SEGMENT) [])
-  where
-    go : (b : Bool) (items : List Held) → Contains (cond b [] (map entries.Held items)) e → (h : Held) × (entries.Held h ≡ e)
-    go true items at = absurd (none_stands e at)
-    go false items at = let of = mapped_from entries.Held items e at in (of.0, of.2)
-
 -- what counts of side segments that are named is among the items there, of the range
 pub record IsNamedItem (range : Range) (sides : List (List Held)) (numbers : List ℕ) (e : Entry) : Type 0 where
   pub item : Held
@@ -279,7 +269,7 @@ pub record IsNamedItem (range : Range) (sides : List (List Held)) (numbers : Lis
 
 pub named_item : (range : Range) (sides : List (List Held)) (numbers : List ℕ) (number : ℕ) (e : Entry) → Contains numbers number → Contains (side_entries sides number) e → counts range e ≡ true → IsNamedItem range sides numbers e
 named_item range sides numbers number e named there counted =
-    let its = side_item sides number e there in
+    let its = side_held sides number e there in
     let all : List Entry = flat_map (side_entries sides) numbers in
     record {
       item = its.0;

@@ -8,7 +8,7 @@ use Rattle.rk_inv_base.proofs.Words.{Contains-append_left, Contains-append_right
 use Rattle.rk_inv_base.proofs.Words.{list_any_none, list_any, get_other, get_same, get, Ended, Entry, Completions, completions_from}
 use Rattle.rk_inv_base.proofs.Words.{is_later, noted, Completion, behind_stands, first_stands, none_stands, stands_cases, told}
 use Rattle.rk_inv_base.proofs.Words.{ends_by_place, first_told, is_outrun_by, is_placed, merged_ends, placed_ends}
-use Rattle.rk_inv_logs.proofs.Words.{noted_later, noted_older, is_same_call, all_by}
+use Rattle.rk_inv_logs.proofs.Words.{noted_later, noted_older, is_same_call, all_by, mapped}
 
 -- ---- the last end of a client
 
@@ -180,22 +180,6 @@ placed_somewhere all (ends ∷ members) g free at =
     ]
 
 -- ---- what was merged
-
--- what a function makes of an element stands among what it makes
-pub mapped : {X Y : Type 0} (f : X → Y) (xs : List X) (x : X) → Contains xs x → Contains (map f xs) (f x)
-mapped f [] x at = absurd (none_stands x at)
-mapped {X} {Y} f (first ∷ xs) x at = elim (stands_cases first xs x at) [
-  | inl same ↦ subst (λ (y : X). Contains (map f (first ∷ xs)) (f y)) same (first_stands (f first) (map f xs))
-  | inr later ↦ behind_stands (f first) (map f xs) (f x) (mapped f xs x later)
-]
-
--- and each that stands there is made so
-pub mapped_from : {X Y : Type 0} (f : X → Y) (xs : List X) (y : Y) → Contains (map f xs) y → (x : X) × Contains xs x × (f x ≡ y)
-mapped_from f [] y at = absurd (none_stands y at)
-mapped_from f (first ∷ xs) y at = elim (stands_cases (f first) (map f xs) y at) [
-  | inl is ↦ (first, first_stands first xs, is)
-  | inr later ↦ let found = mapped_from f xs y later in (found.0, behind_stands first xs found.0 found.1, found.2)
-]
 
 -- all that members tell, told member by member
 pub told_each : (members : List (List Entry)) → flat_map (λ (ends : List Ended). ends) (map told members) ≡ flat_map told members

@@ -1,8 +1,7 @@
 -- An entry is applied with which no call ends and that tells nothing new: a Carried, or one that bears a mark. Truth and rest of each row
 -- tell what they told, and the view stays sound.
 use Rattle.std.proofs.Common.{◌≡◌, ℕ, ◌≤◌, Bool, true, false, List, [], ◌∷◌, ◌++◌, None, refl, sym, ap, ◌∙◌, inl, inr, ◌⊎◌, arith}
-use Rattle.std.proofs.Common.{slice_get, All, Contains, Option, Some, subst, IfSome, eq-eqb, ◌<◌, ◌&&◌, is_some, leb, ltb, leb-true}
-use Rattle.std.proofs.Common.{ltb-true}
+use Rattle.std.proofs.Common.{slice_get, All, Contains, Option, Some, subst, IfSome, eq-eqb, ◌<◌, is_some}
 use Rattle.rk_inv_base.proofs.Words.{Call, Waits, All-contains, All-nil, All-tail, get, Ended, Held, Member, Range, Map, map_after, Entry}
 use Rattle.rk_inv_base.proofs.Words.{lineage_of, Rebuilding, Row, Base, Placed, LastCall, record_of, base_map, items_in, items_of, last_of}
 use Rattle.rk_inv_base.proofs.Words.{told, told_by, counts, of_key, tells_of, own_place, Written, member_rest, member_truth, IsKnown}
@@ -10,22 +9,19 @@ use Rattle.rk_inv_base.proofs.Words.{TellAll, MayApply, AreAboveMap, has_merged,
 use Rattle.rk_inv_base.proofs.Words.{records_of, View, truths, rests, SoundView, cases_eq, false≢true, IfSome_then, meets, Role, Phase}
 use Rattle.rk_inv_base.proofs.Words.{none_stands, first_of, is_absent, is_wanting, Post, post_of, rebuilder_post, is_granted, HasItems}
 use Rattle.rk_inv_base.proofs.Words.{IsTableOf, has_all_items, All-weaker, ends_of, cases_Bool, All-cons, All-head, Carried, is_marked}
-use Rattle.rk_inv_base.proofs.Words.{FirstIsDone, IsEntryOf, and_parts, Any-from_list_any, number_of, row_of, named_by, Mark, HasOwnRange}
-use Rattle.rk_inv_base.proofs.Words.{IsOfRange, MarkFits, EachHasCall}
-use Rattle.rk_inv_logs.proofs.Words.{newest_alike, plain_alike, formed_apart, row_in, all_by, floor_among, TellHistory, heir_post}
+use Rattle.rk_inv_base.proofs.Words.{FirstIsDone, IsEntryOf, number_of, row_of, Mark, HasOwnRange, IsOfRange, MarkFits, EachHasCall}
+use Rattle.rk_inv_tablets.proofs.merge.OfRange.{names_none}
+use Rattle.rk_inv_logs.proofs.Words.{mark_of, newest_alike, plain_alike, formed_apart, row_in, all_by, floor_among, TellHistory, heir_post}
 use Rattle.rk_inv_logs.proofs.Words.{begun_lacks, put_by, history_of, SoundBeside, SoundRow, lineage_last, in_one_row, in_piece}
-use Rattle.rk_inv_logs.proofs.Words.{found_stands}
-use Rattle.rk_model.specs.History.{record_of as map_record_of}
+use Rattle.rk_inv_logs.proofs.Words.{found_stands, key_outside, same_number, above_fewer, map_record_of}
 use Rattle.rk_inv_logs.proofs.apply.Keeps.{IsQuietEntry, KeepsRow, all_keep, items_keep, plain_all, rest_ends, rest_items, truth_tells}
 use Rattle.rk_inv_logs.proofs.apply.Keeps.{floor_keeps, rest_tells}
 use Rattle.rk_inv_logs.proofs.apply.Inserted.{HasMore, more_before, more_behind, more_kept, more_none, more_still, told_among, more_one}
 use Rattle.rk_inv_logs.proofs.apply.Inserted.{same_items}
-use Rattle.rk_inv_rows.proofs.lineage.TakenOver.{above_fewer}
 use Rattle.rk_inv_logs.specs.apply.Small.{entry_applied, with_one_applied, with_item_of, MayApplyUnmarked, MayApplyMarked}
 use Rattle.rk_inv_logs.proofs.apply.AppliedCalls.{tell_then}
 use Rattle.rk_inv_logs.proofs.apply.Members.{IsStill, has_last, rest_grows, truth_grows, HasApplied, StandsBehind, Takes, member_cases}
 use Rattle.rk_inv_logs.proofs.apply.Members.{still, takes, applied_with}
-use Rattle.rk_inv_base.proofs.rows.Apart.{key_outside, same_number}
 use Rattle.rk_inv_logs.proofs.apply.Applies.{Applies, IsKnownIn, StaysBare, Tells, applied_grows, bare_now, cover_now, end_then, logs_now}
 use Rattle.rk_inv_logs.proofs.apply.Applies.{of_applied, of_target, ordered_now, view_applied, waits_on}
 use Rattle.rk_inv_logs.proofs.apply.ItemPut.{bare_with, table_apart}
@@ -406,10 +402,6 @@ found_row : (o : Option Row) → is_some o ≡ true → (row : Row) × (o ≡ So
 found_row None some = absurd (cc some)
 found_row (Some row) some = (row, refl)
 
--- an entry of a rebuild names no side segment
-names_rebuilt : (range other : Range) (entry : Entry) → IsOfRange range entry → named_by other entry ≡ []
-names_rebuilt range other entry is = grind arith
-
 module _ (v : View) (master : ℕ) (entry : Entry) (sound : SoundView v) (may : MayApplyMarked v master entry) where
   -- no call waits for it
   none_waits_marked : get (v.calls master) (v.written master).applied ≡ None
@@ -423,12 +415,7 @@ module _ (v : View) (master : ℕ) (entry : Entry) (sound : SoundView v) (may : 
   -- ---- the rebuild that it is of
 
   the_mark : (mark : Mark) × Contains (v.written master).marks mark × (mark.first ≤ (v.written master).applied) × ((v.written master).applied < mark.past)
-  the_mark =
-      let place : ℕ = (v.written master).applied in
-      let found = Any-from_list_any (λ (mark : Mark). leb mark.first place && ltb place mark.past) (v.written master).marks may.marked in
-      let mark : Mark = found.1 in
-      let parts = and_parts (leb mark.first place) (ltb place mark.past) found.4 in
-      (mark, (found.0, found.2, found.3), leb-true mark.first place parts.0, ltb-true place mark.past parts.1)
+  the_mark = let found = mark_of (v.written master).marks (v.written master).applied may.marked in (found.mark, found.here, found.from, found.before)
 
   its_row : (row : Row) × (row_of v.rows the_mark.0.tablet ≡ Some row)
   its_row = grind (arith, found_row, row_of, the_mark)
@@ -478,7 +465,7 @@ module _ (v : View) (master : ℕ) (entry : Entry) (sound : SoundView v) (may : 
     copied = copied;
     own = λ row has found.
         applied_with row.range (v.written master) entry (v.records master) may.stands
-        (names_rebuilt its_row.0.range row.range entry of_range)
+        (names_none its_row.0.range row.range entry of_range)
         (own_place (v.handovers master row.tablet).role) (stands_behind row has);
   }
 

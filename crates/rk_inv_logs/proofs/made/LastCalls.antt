@@ -8,9 +8,10 @@ use Rattle.rk_inv_base.proofs.Words.{is_of_mutation, LastCall, IsKnown, IsLastAs
 use Rattle.rk_inv_base.proofs.Words.{cases_Bool, false≢true, All-tail, filter_kept, filter_left_out, outcome_of, next_record}
 use Rattle.rk_inv_base.proofs.Words.{false_from_ne_true, list_any_at, ends_told, IsLastCall, WasAsked, ranked, by_order, eq_by_cmp}
 use Rattle.rk_inv_base.proofs.Words.{Ordering, Less, Equal, Greater, same_number, get, insert, Completions, ended_of, ends_of, is_later}
-use Rattle.rk_inv_base.proofs.Words.{noted, Completion, behind_stands, first_stands, stands_cases, completions_from}
+use Rattle.rk_inv_base.proofs.Words.{noted, Completion, behind_stands, first_stands, stands_cases, completions_from, get_same}
 use Rattle.rk_inv_logs.proofs.Words.{known_still, all_by, flat_from, flat_of, not-true, append_nil, made_by, made_of, noted_later}
-use Rattle.rk_inv_logs.proofs.Words.{noted_older}
+use Rattle.rk_inv_logs.proofs.Words.{noted_older, mapped, mapped_from}
+use Rattle.rk_inv_tablets.proofs.Words.{All_insert}
 use Rattle.rk_inv_logs.specs.made.Made.{waits, waits_for}
 use Rattle.rk_entry.specs.declared.entry.Entry.TheVariants as entries
 
@@ -151,6 +152,19 @@ pub record IsReplaced (now : List Ended) (end other : Ended) : Type 0 where
   pub client : other.client ≡ end.client
   pub there : Contains now end
 
+-- what is found stands there
+pub found_end : (c : Completions) (client : ℕ) (last : Completion) → get c client ≡ Some last → Contains (ends_of c) (ended_of (client, last))
+found_end [] client last is = absurd (cc is)
+found_end (e ∷ c) client last is = go (eq_by_cmp nat_cmp client e.0) refl (found_end c client last) is
+  where
+    go : (b : Bool) → eq_by_cmp nat_cmp client e.0 ≡ b → (get c client ≡ Some last → Contains (ends_of c) (ended_of (client, last)))
+        → cond b (Some e.1) (get c client) ≡ Some last → Contains (ends_of (e ∷ c)) (ended_of (client, last))
+    go true same later is =
+        let here : e.1 ≡ last = cc is in
+        let its : e.0 ≡ client = sym (same_number client e.0 same) in
+        subst (Contains (ends_of (e ∷ c))) (λ i. ended_of (its i, here i)) (first_stands (ended_of e) (ends_of c))
+    go false same later is = behind_stands (ended_of e) (ends_of c) (ended_of (client, last)) (later is)
+
 module _ (client : ℕ) (new : Completion) where
   -- the end that is put
   abbrev end : Ended
@@ -158,40 +172,15 @@ module _ (client : ℕ) (new : Completion) where
 
   -- each end is that one, or was there
   put_from : (c : Completions) (x : Ended) → Contains (ends_of (insert c client new)) x → (end ≡ x) ⊎ Contains (ends_of c) x
-  put_from [] x at = elim (stands_cases end [] x at) [ inl is ↦ inl is | inr none ↦ absurd (none_stands x none) ]
-  put_from (e ∷ c) x at = go (nat_cmp client e.0) refl (put_from c x) at
-    where
-      go : (r : Ordering) → nat_cmp client e.0 ≡ r → (Contains (ends_of (insert c client new)) x → (end ≡ x) ⊎ Contains (ends_of c) x)
-          → Contains (ends_of (by_order r ((client, new) ∷ e ∷ c) ((e.0, new) ∷ c) (e ∷ insert c client new))) x
-          → (end ≡ x) ⊎ Contains (ends_of (e ∷ c)) x
-      go Less is later at = stands_cases end (ends_of (e ∷ c)) x at
-      go Equal is later at =
-          let same : client ≡ e.0 = ranked client e.0 Equal (sym is) in
-          ⊎_elim
-          (λ (here : ended_of (e.0, new) ≡ x). inl (ap (λ (n : ℕ). ended_of (n, new)) same ∙ here))
-          (λ (there : Contains (ends_of c) x). inr (behind_stands (ended_of e) (ends_of c) x there))
-          (stands_cases (ended_of (e.0, new)) (ends_of c) x at)
-      go Greater is later at =
-          ⊎_elim
-          (λ (here : ended_of e ≡ x). inr (subst (Contains (ends_of (e ∷ c))) here (first_stands (ended_of e) (ends_of c))))
-          (λ (there : Contains (ends_of (insert c client new)) x).
-          ⊎_elim (λ (is : end ≡ x). inl is)
-          (λ (was : Contains (ends_of c) x). inr (behind_stands (ended_of e) (ends_of c) x was)) (later there))
-          (stands_cases (ended_of e) (ends_of (insert c client new)) x at)
+  put_from c x at =
+      let Is : ℕ × Completion → Type 0 = λ e. (end ≡ ended_of e) ⊎ Contains (ends_of c) (ended_of e) in
+      let found = mapped_from ended_of (insert c client new) x at in
+      let each = All_insert Is c client new (all_by Is c (λ e there. inr (mapped ended_of c e there))) (inl refl) in
+      subst (λ (y : Ended). (end ≡ y) ⊎ Contains (ends_of c) y) found.2 (All-contains Is (insert c client new) found.0 each found.1)
 
   -- it is there
   put_there : (c : Completions) → Contains (ends_of (insert c client new)) end
-  put_there [] = first_stands end []
-  put_there (e ∷ c) = go (nat_cmp client e.0) refl (put_there c)
-    where
-      go : (r : Ordering) → nat_cmp client e.0 ≡ r → Contains (ends_of (insert c client new)) end
-          → Contains (ends_of (by_order r ((client, new) ∷ e ∷ c) ((e.0, new) ∷ c) (e ∷ insert c client new))) end
-      go Less is later = first_stands end (ends_of (e ∷ c))
-      go Equal is later =
-          let same : e.0 ≡ client = sym (ranked client e.0 Equal (sym is)) in
-          subst (Contains (ends_of ((e.0, new) ∷ c))) (ap (λ (n : ℕ). ended_of (n, new)) same)
-          (first_stands (ended_of (e.0, new)) (ends_of c))
-      go Greater is later = behind_stands (ended_of e) (ends_of (insert c client new)) end later
+  put_there c = found_end (insert c client new) client new (get_same c client new client refl)
 
   -- and what was there is, or was of the same client
   put_still : (c : Completions) (x : Ended) → Contains (ends_of c) x → Contains (ends_of (insert c client new)) x ⊎ (x.client ≡ client)
@@ -215,19 +204,6 @@ module _ (client : ℕ) (new : Completion) where
           (λ (kept : Contains (ends_of (insert c client new)) x). inl (behind_stands (ended_of e) (ends_of (insert c client new)) x kept))
           (λ (same : x.client ≡ client). inr same) (later there))
           (stands_cases (ended_of e) (ends_of c) x at)
-
--- what is found stands there
-pub found_end : (c : Completions) (client : ℕ) (last : Completion) → get c client ≡ Some last → Contains (ends_of c) (ended_of (client, last))
-found_end [] client last is = absurd (cc is)
-found_end (e ∷ c) client last is = go (eq_by_cmp nat_cmp client e.0) refl (found_end c client last) is
-  where
-    go : (b : Bool) → eq_by_cmp nat_cmp client e.0 ≡ b → (get c client ≡ Some last → Contains (ends_of c) (ended_of (client, last)))
-        → cond b (Some e.1) (get c client) ≡ Some last → Contains (ends_of (e ∷ c)) (ended_of (client, last))
-    go true same later is =
-        let here : e.1 ≡ last = cc is in
-        let its : e.0 ≡ client = sym (same_number client e.0 same) in
-        subst (Contains (ends_of (e ∷ c))) (λ i. ended_of (its i, here i)) (first_stands (ended_of e) (ends_of c))
-    go false same later is = behind_stands (ended_of e) (ends_of c) (ended_of (client, last)) (later is)
 
 -- ---- an end is noted
 

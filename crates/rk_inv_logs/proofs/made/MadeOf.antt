@@ -13,11 +13,10 @@ use Rattle.rk_inv_base.proofs.Words.{All-append, All-weaker, Range, IsLegal-appe
 use Rattle.rk_inv_base.proofs.Words.{last_version, is_mutation, Entry, base_map, item_end, refusal_end, told, counts, of_key, has_key}
 use Rattle.rk_inv_base.proofs.Words.{IsKnown, IsReached, is_record_in, IsLastAsked, IsRest, IsStaged, call_end, call_ends}
 use Rattle.rk_inv_logs.proofs.Words.{not-true, is_same_call, all_by, filter_stands, append_nil, AllZip, got_cases, made_of, allowed_same}
-use Rattle.rk_inv_logs.proofs.Words.{is_at_own, map_after-same, map_with-same, known_still, flat_from, TellHistory}
+use Rattle.rk_inv_logs.proofs.Words.{is_at_own, map_after-same, map_with-same, known_still, flat_from, TellHistory, map_record_of}
 use Rattle.rk_inv_base.proofs.calls.Accepted.{stands_there}
 use Rattle.rk_inv_logs.specs.made.Made.{waits, without_stamp}
 use Rattle.rk_inv_logs.proofs.made.LastCalls.{HasNone, still_unrecorded, IsWaiting, makes_one, waiting_parts, still_staged}
-use Rattle.rk_model.specs.History.{record_of as map_record_of}
 use Rattle.rk_inv_base.proofs.logs.Missed.{map_elsewhere}
 
 -- ---- pairs

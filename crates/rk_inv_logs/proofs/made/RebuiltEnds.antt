@@ -14,7 +14,7 @@ use Rattle.rk_inv_base.proofs.Words.{has_key, IsReached, Reaches, ReachAll, Tell
 use Rattle.rk_inv_base.proofs.Words.{map_after, lineage_of, Row, base_map, counts, record_of_last, records_of, View, rests, truths}
 use Rattle.rk_inv_base.proofs.Words.{SoundView}
 use Rattle.rk_inv_logs.proofs.Words.{all_by, filter_stands, append_nil, flat_from, AllZip, known_still, filter_from, made_of, place_there}
-use Rattle.rk_inv_logs.proofs.Words.{AllPairs-cons, in_one_row, TellHistory, MakeRecords, journal_with, history_of}
+use Rattle.rk_inv_logs.proofs.Words.{AllPairs-cons, in_one_row, TellHistory, MakeRecords, journal_with, history_of, mapped_from}
 use Rattle.rk_inv_logs.specs.read.ReadBack.{TellInOrder, all_of, IsReadBack}
 use Rattle.rk_inv_logs.specs.made.Made.{waits, without_stamp}
 use Rattle.rk_inv_logs.proofs.made.MadeOf.{AreOfOneCall, Differ, all_placed, none_before, none_placed, nothing_flat, nothing_placed}
@@ -23,7 +23,7 @@ use Rattle.rk_inv_logs.proofs.made.MadeOf.{made_for, makes_all, once_made, IsPla
 use Rattle.rk_inv_logs.proofs.made.MadeOf.{staged_ends, legal_unstamped, made_unstamped, first_differs, later_differ}
 use Rattle.rk_inv_logs.proofs.made.LastCalls.{none_wait, waiting_from, waiting_parts, waits_alike, told_staged, known_low, known_waits_not}
 use Rattle.rk_inv_logs.proofs.made.LastCalls.{found_told, last_ends, HasNone, none_recorded, only_waiting, found_end}
-use Rattle.rk_inv_logs.proofs.apply.MergedEnds.{told_each, HasReached, mapped_from, merged_reaches, reached_told}
+use Rattle.rk_inv_logs.proofs.apply.MergedEnds.{told_each, HasReached, merged_reaches, reached_told}
 use Rattle.rk_inv_logs.proofs.apply.Inserted.{told_among}
 use Rattle.rk_model.proofs.Histories.{legal_front}
 use Rattle.rk_inv_logs.proofs.apply.AppliedRest.{rest_counts}

@@ -9,11 +9,11 @@ use Rattle.rk_inv_base.proofs.Words.{is_joined_in, joined_from, named, side_entr
 use Rattle.rk_inv_base.proofs.Words.{member_truth, member_marked, View, slice_get-get_or, slice_get_within, Ended, Row, length-ends}
 use Rattle.rk_inv_base.proofs.Words.{EntryEnd, LAST_MAIN_SEGMENT, is_marked, stored_of, MayTakeRebuilt, READ_BACKUP, TellsMore}
 use Rattle.rk_inv_base.proofs.Words.{member_given_up, member_stored, stored_count, SoundView, or_from, All-cons, All-nil, lineage_of}
-use Rattle.rk_inv_base.proofs.Words.{is_member, counting, own_place, lineage_rest, lineage_truth, NamedFit, FirstIsDone, IsDone}
-use Rattle.rk_inv_base.proofs.Words.{OnlyIsUnnamed, rests, truths, or_parts}
+use Rattle.rk_inv_base.proofs.Words.{none_stands, is_member, counting, own_place, lineage_rest, lineage_truth, NamedFit, FirstIsDone}
+use Rattle.rk_inv_base.proofs.Words.{IsDone, OnlyIsUnnamed, rests, truths, or_parts}
 use Rattle.rk_inv_logs.proofs.Words.{behind_at, kept_stands, stands_kept, AreAmong, among_then, flat_from, flat_of, named_from, named_of}
 use Rattle.rk_inv_logs.proofs.Words.{free_place, free_stands, taken_at, first_counted, AreReadable, tells_among, sides_named, side_material}
-use Rattle.rk_inv_logs.proofs.Words.{first_among, contains_cases, differ}
+use Rattle.rk_inv_logs.proofs.Words.{first_among, differ, member_at, one_stands, two_stand}
 use Rattle.rk_inv_tablets.proofs.crash.ReadTold.{stands_there}
 use Rattle.rk_inv_logs.specs.read.ReadBack.{IsReadBack, all_of}
 use Rattle.rk_inv_logs.proofs.read.ReadLists.{AreNone, before_has, line_has, read_back, both_told, pieces_among, stand_told, ends_told}
@@ -24,7 +24,6 @@ use Rattle.rk_inv_logs.proofs.read.ReadMember.{truth_in, first_taken}
 use Rattle.rk_inv_logs.proofs.read.ReadOf.{is_log, Taken, main_of, given_up, needed_in, away, dead, apart, in_lineage, its_row, marked_fit}
 use Rattle.rk_inv_logs.proofs.read.ReadOf.{own_done, own_is, rebuilder, own_stands}
 use Rattle.rk_log.specs.Cut.{ends as ends_there}
-use Rattle.rk_tablet_map.specs.Phase.{member as member_at}
 use Rattle.rk_inv_rows.proofs.lineage.TargetMaterial.{names_joins}
 
 module _ (range : Range) (to : ℕ) (own : List Entry) where
@@ -92,9 +91,6 @@ module _ (to : ℕ) where
 
 -- ---- side segments
 
-none_in : {X : Type 0} (x : X) → Contains [] x → ⊥
-none_in x at = omega (arith, at.1)
-
 -- where no Joined waits, what all entries name the applied ones name
 pub sides_applied : (range : Range) (from : ℕ) (w : Written) → joined_from range (max from w.applied) w.entries ≡ [] → (e : Entry) → Contains (side_part range from w w.entries) e → Contains (side_part range from w (applied_entries w)) e
 sides_applied range from w none e at =
@@ -121,7 +117,7 @@ sides_applied range from w none e at =
           let found = behind_at w.entries place is.place by.0 (omega (arith, is.behind, waits)) is.stands in
           let behind : Contains (drop place w.entries) by.0 = stands_there (drop place w.entries) found.0 by.0 found.1 in
           absurd
-          (none_in by.0
+          (none_stands by.0
           (rw none at (stands_kept (is_joined_in range) (drop place w.entries) by.0 behind (names_joins range by.0 of.0 by.2))))
     ]
 
@@ -585,10 +581,8 @@ module _ (v : View) (row : Row) (to place : ℕ) (ends : List Ended) (sound : So
         let away : only.master ≡ to → ⊥ = differ only.master to (or_parts (only.master == to) false outside).0 in
         let one = one_gathered members only (members_are (only ∷ []) may ∙ others_only to only away) in
         only_read_back v row to place ends sound readable some few one.gathered one.members_are (rw one.member_is may)
-    | inr stands ↦ elim (contains_cases only [] (member_at to place) stands) [
-      | inl same ↦ only_own_back v row to place ends sound readable some few (rw same at may)
-      | inr none ↦ absurd (omega (arith, none.1))
-    ]
+    | inr stands ↦
+        let same = one_stands only (member_at to place) stands in only_own_back v row to place ends sound readable some few (rw same at may)
   ]
 
   of_two : (first last : Member) → MayTakeRebuilt v row (first ∷ last ∷ []) to place ends → IsBack v row to place ends sound readable some few
@@ -603,19 +597,16 @@ module _ (v : View) (row : Row) (to place : ℕ) (ends : List Ended) (sound : So
             let two = two_gathered members first last (members_are both may ∙ others_both to first last first_away last_away) in
             both_read_back v row to place ends sound readable some few two.first two.last two.members_are
             (rw two.last_is (rw two.first_is may))
-        | inr stands ↦ elim (contains_cases first (last ∷ []) (member_at to place) stands) [
+        | inr stands ↦ elim (two_stand first last (member_at to place) stands) [
           | inl same ↦
               let at : first.master ≡ to = ap (λ (m : Member). m.master) same in
               let one = one_gathered members last (members_are both may ∙ others_first to first last at (λ e. beside (at ∙ sym e))) in
               first_own_back v row to place ends sound readable some few one.gathered one.members_are (rw one.member_is (rw same at may))
-          | inr later ↦ elim (contains_cases last [] (member_at to place) later) [
-            | inl same ↦
-                let at : last.master ≡ to = ap (λ (m : Member). m.master) same in
-                let one = one_gathered members first (members_are both may ∙ others_last to first last (λ e. beside (e ∙ sym at)) at) in
-                last_own_back v row to place ends sound readable some few one.gathered one.members_are
-                (subst (λ (m : Member). MayTakeRebuilt v row (one.gathered.member ∷ m ∷ []) to place ends) same (rw one.member_is may))
-            | inr none ↦ absurd (omega (arith, none.1))
-          ]
+          | inr same ↦
+              let at : last.master ≡ to = ap (λ (m : Member). m.master) same in
+              let one = one_gathered members first (members_are both may ∙ others_last to first last (λ e. beside (e ∙ sym at)) at) in
+              last_own_back v row to place ends sound readable some few one.gathered one.members_are
+              (subst (λ (m : Member). MayTakeRebuilt v row (one.gathered.member ∷ m ∷ []) to place ends) same (rw one.member_is may))
         ]
       ]
 

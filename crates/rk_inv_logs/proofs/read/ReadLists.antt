@@ -6,7 +6,7 @@ use Rattle.rk_inv_base.proofs.Words.{cases_eq, Contains-append_right, End, Ended
 use Rattle.rk_inv_base.proofs.Words.{Entry, item_end, items_in, items_of, told_by, is_marked, unmarked_from, counts, Written, map-append}
 use Rattle.rk_inv_base.proofs.Words.{flat_map-append, All-contains, All-map, All-weaker, Contains-append_left, told}
 use Rattle.rk_inv_logs.proofs.Words.{contains_cases, kept_stands, AreAmong, first_counted, flat_from, flat_of, stands_front, free_place}
-use Rattle.rk_inv_logs.proofs.Words.{all_by}
+use Rattle.rk_inv_logs.proofs.Words.{all_by, one_stands}
 use Rattle.rk_inv_tablets.proofs.crash.MergeTells.{item_told, all_stand_told, all_told}
 use Rattle.rk_inv_tablets.proofs.crash.Unmarked.{first_stands}
 use Rattle.rk_inv_logs.specs.read.ReadBack.{IsReadBack, TellInOrder, all_of}
@@ -135,8 +135,7 @@ items_among these those each = (
 )
   where
     one : {X : Type 0} (y x : X) (P : X → Type 0) → P y → Contains (y ∷ []) x → P x
-    one y x P its at =
-        ⊎_elim (λ (same : y ≡ x). subst P same its) (λ (none : Contains [] x). absurd (omega (arith, none.1))) (contains_cases y [] x at)
+    one y x P its at = subst P (one_stands y x at) its
 
 -- ---- what is read of the last member
 

@@ -6,19 +6,20 @@ use Rattle.std.proofs.Common.{nat_lt, not, unwrap_or, Contains, eq-eqb, eqb-true
 use Rattle.rk_inv_base.proofs.Words.{All-head, All-tail, All-take, recursion_from_All, all_again, spelled_all, entries_of, IsLawfulEntry}
 use Rattle.rk_inv_base.proofs.Words.{spelled, Entry, EntryEnd, is_main, cases_lt, cond-false, cond-true, cond_both, false≢true}
 use Rattle.rk_inv_base.proofs.Words.{All-contains, All-map, prefix_len-le-length, get_or_from_slice_get, slice_get-get_or, slice_get_within}
-use Rattle.rk_inv_base.proofs.Words.{list_all, option_map_or, get, meets, Held, Range, NumberedBytes, IsLawfulHeld, FIRST_SIDE_SEGMENT}
+use Rattle.rk_inv_base.proofs.Words.{list_all, option_map_or, get, Held, Range, NumberedBytes, IsLawfulHeld, FIRST_SIDE_SEGMENT}
 use Rattle.rk_inv_base.proofs.Words.{list_all_each, cut, ends, Known, is_whole, known_length, nothing, IsBackup, Log, bytes_of, is_held}
 use Rattle.rk_inv_base.proofs.Words.{is_side_stored, known_of, Gathered, LAST_MAIN_SEGMENT, next_segment, side_read, as_entries, named}
-use Rattle.rk_inv_base.proofs.Words.{named_by, side_entries, Written, IsCopy, IsLog, segments_in, AreRead, IsGathered, IsReadPart}
-use Rattle.rk_inv_base.proofs.Words.{READ_BACKUP}
+use Rattle.rk_inv_base.proofs.Words.{side_entries, Written, IsLog, segments_in, AreRead, IsGathered, IsReadPart, READ_BACKUP}
+pub use Rattle.rk_inv_tablets.proofs.crash.FirstRead.{all_parts as whole_part}
+pub use Rattle.rk_inv_tablets.proofs.crash.ReadTold.{named_in}
 use Rattle.rk_inv_logs.proofs.Words.{ArePartsRead, IsPartRead, ends_in, group_ends, spelled_both, spelled_first, spelled_none, ends_within}
-use Rattle.rk_inv_logs.proofs.Words.{committed_held, main_entries, next_side, contains_cases, end_some, bytes_in, bytes_main, bytes_side}
-use Rattle.rk_inv_logs.proofs.Words.{numbered_at, numbered_past, named_from, place_there, stands_front, AreFirstStored, read_none}
-use Rattle.rk_inv_logs.proofs.Words.{cut_groups, all_at, all_groups, main_read, side_number}
+use Rattle.rk_inv_logs.proofs.Words.{committed_held, main_entries, next_side, contains_cases, end_some, bytes_in, bytes_side, numbered_at}
+use Rattle.rk_inv_logs.proofs.Words.{numbered_past, named_from, place_there, stands_front, AreFirstStored, read_none, cut_groups, all_at}
+use Rattle.rk_inv_logs.proofs.Words.{all_groups, main_read, side_number}
 use Rattle.rk_inv_base.proofs.logs.Logs.{first_part_more}
 use Rattle.rk_inv_tablets.proofs.crash.ReadTold.{stands_there}
 use Rattle.rk_entry.specs.declared.entry.Entry.TheVariants as entries
-use Rattle.rk_inv_tablets.proofs.crash.LogRead.{spelled_at, items_at}
+use Rattle.rk_inv_tablets.proofs.crash.LogRead.{copy, group_of, items_at}
 
 -- ---- places
 
@@ -143,24 +144,12 @@ none_of {X} p (y ∷ xs) none x at =
     cond_both (p y) (Some y) (find p xs) (λ (found : Option X). found ≡ None → p x ≡ false) (λ e is. absurd (cc is))
     (λ e is. elim (contains_cases y xs x at) [ inl same ↦ ap p (sym same) ∙ e | inr later ↦ none_of p xs is x later ]) none
 
--- a first part that is as long as the whole is the whole
-pub whole_part : (whole bytes more : List ℕ) → whole ≡ bytes ++ more → length whole ≤ length bytes → bytes ≡ whole
-whole_part whole bytes [] is enough = sym (is ∙ append-nil bytes)
-whole_part whole bytes (x ∷ more) is enough = absurd (omega (arith, enough, ap length is, length-append bytes (x ∷ more)))
-
--- the segments that an entry names for a range are among those that it names
-pub named_in : (range : Range) (entry : Entry) (n : ℕ) → Contains (named_by range entry) n → Contains (segments_in entry) n
-named_in range entry n = grind (arith, cond_both, meets)
-
 module _ (log : Log) (w : Written) (stored : ℕ → ℕ → List ℕ) (kept : IsLog log w stored) (backed : IsBackup log READ_BACKUP) (few : length (cut log.entries) < FIRST_SIDE_SEGMENT) where
   abbrev its : ℕ → List ℕ
   its = stored READ_BACKUP
 
   abbrev known : Known
   known = known_of log READ_BACKUP
-
-  copy : IsCopy log (stored READ_BACKUP) (known_of log READ_BACKUP)
-  copy = kept.copies READ_BACKUP backed
 
   module _ (Needed : EntryEnd → Type 0) (gathered : Gathered) (read : IsGathered Needed (known_of log READ_BACKUP) (stored READ_BACKUP) gathered) where
     -- ---- main segments
@@ -176,12 +165,6 @@ module _ (log : Log) (w : Written) (stored : ℕ → ℕ → List ℕ) (kept : I
     abbrev reach_of : EntryEnd → ℕ → ℕ
     reach_of end n = max (known_length known n) (cond (n == end.segment) end.offset 0)
 
-    group_of : (k segment : ℕ) → 1 + k ≡ segment → segment < FIRST_SIDE_SEGMENT → (groups : List (List Entry)) → cut log.entries ≡ map spelled_all groups → bytes_of log segment ≡ spelled_all (get_or groups k [])
-    group_of k segment is main groups are =
-        let at : segment - 1 ≡ k = omega (arith, is) in
-        bytes_main log segment (omega (arith, is)) main ∙ ap (λ (n : ℕ). get_or (cut log.entries) n []) at
-        ∙ ap (λ (segments : List (List ℕ)). get_or segments k []) are ∙ spelled_at groups k
-
     reach_within : (end : EntryEnd) → IsReached end → (segment : ℕ) (bytes : List ℕ) → IsReadPart Needed known its segment bytes → reach_of end segment ≤ length bytes
     reach_within end reached segment bytes part =
         let known_part = part.enough in
@@ -196,15 +179,15 @@ module _ (log : Log) (w : Written) (stored : ℕ → ℕ → List ℕ) (kept : I
         let main : segment < FIRST_SIDE_SEGMENT = omega (arith, is, within, fits) in
         let one : AreRead Needed known its segment (get_or gathered.main k []) =
         subst (λ (n : ℕ). AreRead Needed known its n (get_or gathered.main k [])) at (read.main k within) in
-        let group = group_of k segment is main groups are in
+        let group = group_of log w stored kept backed few Needed gathered read k segment is main groups are in
         record {
           bytes = one.bytes;
           read_is = one.spelled;
           front = one.read.front;
-          copied = rw group at (copy.front segment);
+          copied = rw group at ((copy log w stored kept backed few).front segment);
           enough = reach_within end reached segment one.bytes one.read;
           in_order = λ later behind mains some.
-              let least = rw group at (copy.in_order later some segment behind (lt-ltb segment FIRST_SIDE_SEGMENT main ∙ sym mains)) in
+              let least = rw group at ((copy log w stored kept backed few).in_order later some segment behind (lt-ltb segment FIRST_SIDE_SEGMENT main ∙ sym mains)) in
               omega (arith, least);
         }
 
@@ -311,7 +294,7 @@ module _ (log : Log) (w : Written) (stored : ℕ → ℕ → List ℕ) (kept : I
           let bytes_are : bytes_of log number ≡ bytes = bytes_side log number few side ∙ ap bytes_in found in
           let items : List Held = get_or w.sides k [] in
           let spelt = ap (λ (sides : List (List ℕ)). get_or sides k []) kept.spelled ∙ items_at w.sides k in
-          let part = first_part_more one.bytes (its number) (bytes_of log number) one.read.front (copy.front number) in
+          let part = first_part_more one.bytes (its number) (bytes_of log number) one.read.front ((copy log w stored kept backed few).front number) in
           let same = whole_part bytes one.bytes part.more (sym bytes_are ∙ part.parts) (omega (arith, holds, one.read.enough)) in
           let lawful_list : All IsLawfulEntry (as_entries items) =
           All-map IsLawfulEntry entries.Held items (all_at IsLawfulHeld w.sides k (all_groups IsLawfulHeld w.sides lawful_items)) in

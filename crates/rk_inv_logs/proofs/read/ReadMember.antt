@@ -7,8 +7,10 @@ use Rattle.rk_inv_base.proofs.Words.{cases_Bool, drop_all, cases_lt, cond_both, 
 use Rattle.rk_inv_base.proofs.Words.{Contains-append_left, Contains-append_right, filter-append, slice_get_within, Range, Entry, is_marked}
 use Rattle.rk_inv_base.proofs.Words.{unmarked, unmarked_from, counting, counts, log_material, material_of, named, named_by, side_entries}
 use Rattle.rk_inv_base.proofs.Words.{with_number, Written, applied_entries, Mark, marked_entries}
-use Rattle.rk_inv_logs.proofs.Words.{contains_cases, Extends, counting_extends, drop_extends, still_contains, unmarked_extends, kept_stands}
-use Rattle.rk_inv_logs.proofs.Words.{place_of, sides_extend, stands_front, IsUnmarked, free_place, marked_stands}
+use Rattle.rk_inv_tablets.proofs.merge.Pieces.{free_names}
+use Rattle.rk_inv_tablets.proofs.ready.OwnItems.{unmarked_at}
+use Rattle.rk_inv_logs.proofs.Words.{contains_cases, Extends, counting_extends, still_contains, kept_stands, place_of, sides_extend}
+use Rattle.rk_inv_logs.proofs.Words.{stands_front, IsUnmarked, free_place, marked_stands, unmarked_grow}
 use Rattle.rk_inv_tablets.proofs.crash.Unmarked.{first_stands}
 
 -- ---- lists
@@ -56,42 +58,7 @@ module _ (marks : List Mark) where
       ∙ ap (λ (l : List Entry). unmarked marks from (drop from (take n list)) ++ unmarked marks (from + m) l) (drop-drop m from list)
       ∙ ap (λ (k : ℕ). unmarked marks from (drop from (take n list)) ++ unmarked marks k (drop k list)) at
 
-  -- where marked entries name nothing, the others name all
-  pub named_free : (range : Range) (start : ℕ) (list : List Entry) → ((k : ℕ) (entry : Entry) → slice_get list k ≡ Some entry → is_marked marks (start + k) ≡ true → named_by range entry ≡ []) → flat_map (named_by range) list ≡ flat_map (named_by range) (unmarked marks start list)
-  named_free range start [] none = refl
-  named_free range start (entry ∷ list) none =
-      let later : flat_map (named_by range) list ≡ flat_map (named_by range) (unmarked marks (suc start) list) =
-      named_free range (suc start) list (λ k e at marked.
-      let same : suc start + k ≡ start + suc k = omega arith in
-      none (suc k) e at (ap (is_marked marks) (sym same) ∙ marked)) in
-      elim (cases_Bool (is_marked marks start)) [
-        | inl marked ↦
-            let here : start + 0 ≡ start = omega arith in
-            rw (marked, none 0 entry refl (ap (is_marked marks) here ∙ marked)) later
-        | inr free ↦ rw free (ap (λ (l : List ℕ). named_by range entry ++ l) later)
-      ]
-
-  -- an entry that bears no mark, by its place behind a first one
-  abbrev IsFreeAt : ℕ → List Entry → Entry → Type 0
-  IsFreeAt start list entry = (k : ℕ) × (slice_get list k ≡ Some entry) × (is_marked marks (start + k) ≡ false)
-
-  free_at : (start : ℕ) (list : List Entry) (entry : Entry) → Contains (unmarked marks start list) entry → IsFreeAt start list entry
-  free_at start [] entry = λ at. absurd (omega (arith, at.1))
-  free_at start (first ∷ list) entry =
-      let here : start + 0 ≡ start = omega arith in
-      cond_both (is_marked marks start) (unmarked marks (suc start) list) (first ∷ unmarked marks (suc start) list)
-      (λ (l : List Entry). Contains l entry → IsFreeAt start (first ∷ list) entry) (λ e at. behind (free_at (suc start) list entry at))
-      (λ e at. elim (contains_cases first (unmarked marks (suc start) list) entry at) [
-        | inl same ↦ (zero, ap Some same, ap (is_marked marks) here ∙ e)
-        | inr later ↦ behind (free_at (suc start) list entry later)
-      ])
-    where
-      behind : IsFreeAt (suc start) list entry → IsFreeAt start (first ∷ list) entry
-      behind found =
-          let same : start + suc found.0 ≡ suc start + found.0 = omega arith in
-          (suc found.0, found.1, ap (is_marked marks) same ∙ found.2)
-
-  -- and one that bears a mark
+  -- an entry that bears a mark, by its place behind a first one
   abbrev IsMarkedAt : ℕ → List Entry → Entry → Type 0
   IsMarkedAt start list entry = (k : ℕ) × (slice_get list k ≡ Some entry) × (is_marked marks (start + k) ≡ true)
 
@@ -123,7 +90,7 @@ module _ (marks : List Mark) where
       none_there (counting range (unmarked marks (suc start) list))
       (λ other at.
       let kept = kept_stands (counts range) (unmarked marks (suc start) list) other at in
-      let found = free_at (suc start) list other kept.0 in
+      let found = unmarked_at marks (suc start) list other kept.0 in
       let here : start + 0 ≡ start = omega arith in
       let there : start + suc found.0 ≡ suc start + found.0 = omega arith in
       let less = before 0 (suc found.0) entry other refl found.1 (ap (is_marked marks) here ∙ marked) (ap (is_marked marks) there ∙ found.2) inside kept.1 in
@@ -184,17 +151,7 @@ pub record IsReadLog (range : Range) (from : ℕ) (w : Written) (main : List Ent
       → counts range entry ≡ true → (other : Entry) → (is : IsUnmarked w.marks from w.entries other) → counts range other ≡ true
       → is.place < place
 
--- what is unmarked of first entries is of what is unmarked of all
-pub unmarked_grow : (marks : List Mark) (from : ℕ) (old new : List Entry) → Extends old new → Extends (unmarked_from marks from old) (unmarked_from marks from new)
-unmarked_grow marks from old new grown =
-    let behind = drop_extends from old grown.more in
-    let rest = unmarked_extends marks from (drop from old) behind.more in
-    record {
-      more = rest.more;
-      parts = ap (unmarked_from marks from) grown.parts ∙ ap (unmarked marks from) behind.parts ∙ rest.parts;
-    }
-
--- so what their side segments have
+-- what the side segments of first entries have, those of all have
 pub side_grow : (range : Range) (from : ℕ) (w : Written) (old new : List Entry) → Extends old new → (entry : Entry) → Contains (side_part range from w old) entry → Contains (side_part range from w new) entry
 side_grow range from w old new grown entry at =
     search (still_contains, sides_extend, side_entries, unmarked_from, unmarked_grow, w.sides, w.marks)
@@ -217,7 +174,7 @@ module _ (range : Range) (from : ℕ) (w : Written) (main : List Entry) (side : 
 
   names_same : named range (drop from main) ≡ named range (unmarked_from w.marks from main)
   names_same = ap (λ (l : List ℕ). fold with_number [] l)
-      (named_free w.marks range from (drop from main) (λ k entry at marked. read.bare (from + k) entry (at_place k entry at) marked))
+      (free_names range w.marks from (drop from main) (λ k entry at marked. read.bare (from + k) entry (at_place k entry at) marked))
 
   sides_same : flat_map side (named range (drop from main)) ≡ flat_map (side_entries w.sides) (named range (unmarked_from w.marks from main))
   sides_same =

@@ -1,21 +1,20 @@
 -- What a rebuild reads of a member: its own log, where its piece stands, and that what it needs is read.
-use Rattle.std.proofs.Common.{◌≡◌, ◌≤◌, ◌⊎◌, inl, inr, ℕ, zero, suc, false, List, [], ◌∷◌, ◌++◌, max, Some, None, refl, sym, ap}
-use Rattle.std.proofs.Common.{subst, ◌∙◌, arith, ◌==◌, IfSome, drop, All, Contains, flat_map, eq-eqb, eqb-true, append-nil, length, ◌&&◌}
-use Rattle.std.proofs.Common.{◌<◌, true, leb, eqb, nat_le, nat_lt, slice_get, le-leb, lt-ltb, Bool, filter, Option, not, option_map}
+use Rattle.std.proofs.Common.{◌≡◌, ◌≤◌, ◌⊎◌, inl, inr, ℕ, zero, suc, false, List, [], ◌∷◌, ◌++◌, max, Some, None, refl, sym, ap, subst, ◌∙◌}
+use Rattle.std.proofs.Common.{arith, ◌==◌, IfSome, drop, All, Contains, flat_map, eq-eqb, eqb-true, append-nil, length, ◌&&◌, ◌<◌, true}
+use Rattle.std.proofs.Common.{nat_le, nat_lt, slice_get, le-leb, lt-ltb, Bool, filter, Option, not, option_map}
 use Rattle.rk_inv_base.proofs.Words.{flat_map-append, All-contains, All-drop, filter-append, Ended, Member, Range, Entry, Handover, Role}
-use Rattle.rk_inv_base.proofs.Words.{lineage_of, Phase, Rebuilding, Row, next_reading, is_member, unmarked_from, touches, counting, counts}
+use Rattle.rk_inv_base.proofs.Words.{lineage_of, Phase, Rebuilding, Row, next_reading, is_member, unmarked_from, counting, counts}
 use Rattle.rk_inv_base.proofs.Words.{material_of, named_by, side_entries, with_number, own_place, Written, applied_entries, member_material}
 use Rattle.rk_inv_base.proofs.Words.{MayTakeRebuilt, Holds, bond_of, post_of, rebuilder_post, IsMergedOf, MarkedFit, RowIsRebuilt}
 use Rattle.rk_inv_base.proofs.Words.{merged_place, IsDone, AreApart, IsFormed, HandoverFits, View, truths, SoundView, Any-from_list_any}
-use Rattle.rk_inv_base.proofs.Words.{cases_Bool, LAST_MAIN_SEGMENT, and_from, cases_eq, cases_lt, false≢true, nat_tests, list_any_at}
-use Rattle.rk_inv_base.proofs.Words.{IsLawfulEntry, FIRST_SIDE_SEGMENT, cut, ends, IsBackup, Log, known_of, EntryEnd, Gathered}
-use Rattle.rk_inv_base.proofs.Words.{next_segment, side_read, is_marked, Mark, IsLog, stored_of, IsGathered, READ_BACKUP, StandsLast}
-use Rattle.rk_inv_base.proofs.Words.{given_up_marks, marked_entries, or_right, All-contains_itself, option_or, Gather, next_of, reading_of}
-use Rattle.rk_inv_base.proofs.Words.{names, IsMaster, NeededOf, member_given_up}
-use Rattle.rk_inv_logs.proofs.Words.{AreReadable, SoundRow, row_in, IsRebuilderIn, rebuilt_at, RebuiltAt, stands_kept, behind_any}
-use Rattle.rk_inv_logs.proofs.Words.{place_there, HasMark, mark_of, mark_says, marked_names_none, marked_of_row, IsUnmarked, free_stands}
-use Rattle.rk_inv_logs.proofs.Words.{marked_stands, contains_cases, kept_stands, each_member, members_by, former_gone}
-use Rattle.rk_tablet_map.specs.Phase.{member as member_at}
+use Rattle.rk_inv_base.proofs.Words.{cases_Bool, LAST_MAIN_SEGMENT, and_from, cases_eq, false≢true, list_any_at, IsLawfulEntry}
+use Rattle.rk_inv_base.proofs.Words.{FIRST_SIDE_SEGMENT, cut, ends, IsBackup, Log, known_of, EntryEnd, Gathered, next_segment, side_read}
+use Rattle.rk_inv_base.proofs.Words.{is_marked, Mark, IsLog, stored_of, IsGathered, READ_BACKUP, given_up_marks, marked_entries, or_right}
+use Rattle.rk_inv_base.proofs.Words.{All-contains_itself, option_or, Gather, next_of, reading_of, names, IsMaster, NeededOf}
+use Rattle.rk_inv_base.proofs.Words.{member_given_up}
+use Rattle.rk_inv_logs.proofs.Words.{AreReadable, SoundRow, row_in, IsRebuilderIn, rebuilt_at, RebuiltAt, stands_kept, HasMark, mark_of}
+use Rattle.rk_inv_logs.proofs.Words.{mark_says, marked_names_none, marked_of_row, IsUnmarked, marked_stands, contains_cases, kept_stands}
+use Rattle.rk_inv_logs.proofs.Words.{each_member, members_by, former_gone, before_piece, member_at}
 use Rattle.rk_inv_base.proofs.logs.Missed.{Misses, all_names_none, counting_none, unmarked_missed}
 use Rattle.rk_inv_logs.proofs.apply.Stagers.{rebuilder_from}
 use Rattle.rk_inv_logs.proofs.read.ReadMember.{from_split, IsReadLog, marked_part, marked_read}
@@ -147,27 +146,6 @@ module _ (v : View) (t : Taken v) where
       ]
 
 -- ---- marks
-
--- an entry that counts for a range that is not empty touches it
-all_meets : (s f l t g m : ℕ) → g ≤ m → (eqb s t && leb f g && leb m l) ≡ true → (eqb s t && leb f m && leb g l) ≡ true
-all_meets s f l t g m some all = grind (arith, nat_tests)
-
-pub counts_touches : (range : Range) (entry : Entry) → range.first ≤ range.last → counts range entry ≡ true → touches range entry ≡ true
-counts_touches range entry some inside = grind (arith, all_meets, false≢true)
-
--- where a marked piece stands last, all that counts and bears no mark stands before it
-before_piece : (range : Range) (w : Written) (mark : Mark) (from : ℕ) (entry : Entry) → range.first ≤ range.last → StandsLast range w mark → (is : IsUnmarked w.marks from w.entries entry) → counts range entry ≡ true → is.place < mark.first
-before_piece range w mark from entry some last is inside = elim (cases_lt is.place mark.first) [
-  | inl before ↦ before
-  | inr behind ↦
-      let all : List Entry = unmarked_from w.marks mark.first w.entries in
-      let there =
-      place_there all entry
-      (free_stands w.marks mark.first w.entries entry (record { place = is.place; behind = behind; stands = is.stands; free = is.free })) in
-      absurd
-      (false≢true
-      (sym last ∙ behind_any (touches range) all 0 there.0 entry (omega arith) there.1 (counts_touches range entry some inside)))
-]
 
 -- a place that a mark covers is marked
 marked_here : (marks : List Mark) (mark : Mark) (place : ℕ) → Contains marks mark → mark.first ≤ place → place < mark.past → is_marked marks place ≡ true

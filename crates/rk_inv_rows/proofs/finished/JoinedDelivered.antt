@@ -15,8 +15,10 @@ use Rattle.rk_inv_base.proofs.Words.{delivered, delivered_to, happened, step, st
 use Rattle.rk_inv_base.proofs.Words.{written_in, StepError, Event, ByMaster, HasJoined, IsOf, JoinedIn, SaysOf, row_at, view, IsSound}
 use Rattle.rk_inv_rows.proofs.Words.{behind_at, place_of, filter_from, filter_stands, material_in, IsFinished, marks_none, SoundRow, row_in}
 use Rattle.rk_inv_rows.proofs.Words.{Finishes, own_entries, found_stands, new_stands, stands_found}
-use Rattle.rk_inv_rows.proofs.lineage.Among.{flat_among, from_flat, kept_among, number_from, number_to, taken_from, to_flat}
-use Rattle.rk_inv_rows.proofs.lineage.Pieces.{taken_counts, unmarked_place, unmarked_stands, unmarked_stood}
+use Rattle.rk_inv_rows.proofs.lineage.Among.{flat_among, kept_among}
+use Rattle.rk_inv_base.proofs.views.Among.{from_flat, number_from, number_to, taken_from, to_flat, unmarked_place, unmarked_stands}
+use Rattle.rk_inv_base.proofs.views.Among.{unmarked_stood}
+use Rattle.rk_inv_rows.proofs.lineage.Pieces.{taken_counts}
 use Rattle.rk_overlay.specs.Plain.{HaveSame}
 use Rattle.rk_overlay.proofs.Live.{live_alike, live_of_overlay}
 use Rattle.rk_inv_rows.proofs.lineage.JoinedTaken.{history}

@@ -3,11 +3,10 @@ use Rattle.std.proofs.Common.{arith, ◌≡◌, ◌+◌, ℕ, false, cond, List,
 use Rattle.std.proofs.Common.{is_some, Contains, option_map}
 use Rattle.rk_inv_base.proofs.Words.{cond_both, false≢true, All-contains, option_or, get, Member, Node, Range, Segments, number_of}
 use Rattle.rk_inv_base.proofs.Words.{add_fault, divided, lower_part, placed, replaced, row_of, upper_part, Phase, Moving, Owned, Row}
-use Rattle.rk_inv_base.proofs.Words.{Message, Backed, Called, Coordinator, new_row, coordinator_step, told_coordinator, is_added}
-use Rattle.rk_inv_base.proofs.Words.{with_client, master_step, migrating, row_migrated, notice_order, fault_of, refusal, where_true, worn}
-use Rattle.rk_inv_base.proofs.Words.{rows_split_of, Stepped, backed_at, delivered, delivered_to, happened, losing, seen_in, sent_again}
-use Rattle.rk_inv_base.proofs.Words.{step, turned, with_sends, worked_at, World, has_crashed, master_at, with_ledger, with_stored_by, Event}
-use Rattle.rk_inv_base.proofs.Words.{IsSound}
+use Rattle.rk_inv_base.proofs.Words.{Message, Called, Coordinator, new_row, coordinator_step, told_coordinator, is_added, with_client}
+use Rattle.rk_inv_base.proofs.Words.{master_step, migrating, row_migrated, notice_order, fault_of, refusal, where_true, worn, rows_split_of}
+use Rattle.rk_inv_base.proofs.Words.{Stepped, delivered, delivered_to, happened, losing, seen_in, sent_again, step, turned, worked_at}
+use Rattle.rk_inv_base.proofs.Words.{World, has_crashed, master_at, with_ledger, with_stored_by, Event, IsSound}
 use Rattle.rk_inv_rows.proofs.Words.{cut_fault, split_fault, split_rows, Taken, tablet_split_fault_by, tablet_split_fault_of, all_with}
 use Rattle.rk_inv_rows.proofs.Words.{found_stands, stood}
 use Rattle.rk_types.specs.declared.node.Node.TheVariants as nodes
@@ -138,9 +137,6 @@ module _ (w : World) (row : Row) (source target : Member) (sound : IsSound w) (f
   stored_by : (backup : ℕ) (store : Segments → Segments) (segments : Option Segments) → Stays (with_stored_by w backup store segments)
   stored_by backup store None = as_before
   stored_by backup store (Some segments) = as_before
-
-  backed : (now : World) (made : Backed) → Stays now → Stays (backed_at now made).world
-  backed now made stays = cond_both made.lost (losing now) (with_sends now made.sends) (λ s. Stays s.world) (λ e. stays) (λ e. stays)
 
   to_node : (number : ℕ) (message : Message) (called : Called) → get w.wire.messages number ≡ Some message
       → (to : Node) → message.to ≡ to → Leaves (events.Deliver number) (delivered_to w message to called).world

@@ -68,12 +68,9 @@ unowned_all_noticed tablet coordinator (dead ∷ order) all =
 -- ---- the coordinator takes a message
 
 module _ (coordinator : Coordinator) (row : Row) (source target : Member) (apart : IsTabletMap coordinator.rows) (found : row_of coordinator.rows row.tablet ≡ Some row) (moving : row.phase ≡ Moving source.master source.from target.master target.from) where
-  has_row : Contains coordinator.rows row
-  has_row = found_stands coordinator.rows row.tablet row found
-
   -- a row of its number is the row
   is_row : (r : Row) → Contains coordinator.rows r → r.tablet ≡ row.tablet → r ≡ row
-  is_row r at same = same_number coordinator.rows r row apart at has_row same
+  is_row r at same = same_number coordinator.rows r row apart at (found_stands coordinator.rows row.tablet row found) same
 
   phase_of : (r : Row) → Contains coordinator.rows r → r.tablet ≡ row.tablet → r.phase ≡ Moving source.master source.from target.master target.from
   phase_of r at same = ap (λ (x : Row). x.phase) (is_row r at same) ∙ moving

@@ -15,16 +15,16 @@ use Rattle.rk_inv_base.proofs.Words.{rests, SoundView, IsKnown, Call, All-tail, 
 use Rattle.rk_inv_base.proofs.Words.{MovingSource, MovingTarget, Owner, Post, Holds, StillCounts, bond_of, post_of, speaks, RoleFits}
 use Rattle.rk_inv_base.proofs.Words.{IsPlaced, HasItems, has_all_items, has_key}
 use Rattle.rk_inv_rows.proofs.Words.{member as member_at, all_by, marks_none, TellHistory, SoundRow, row_in, MayTakeLineage, MembersAgree}
-use Rattle.rk_inv_rows.proofs.Words.{lineage_taken}
+use Rattle.rk_inv_rows.proofs.Words.{lineage_taken, has_itself, floor_among}
 use Rattle.rk_sound.specs.Receives.{IsClosedAt}
 use Rattle.rk_inv_base.proofs.logs.InRange.{scan_in, truth_in}
 use Rattle.rk_inv_rows.proofs.lineage.Among.{first_stand, flat_among, kept_among, later_stands, longer_stands}
-use Rattle.rk_inv_rows.proofs.lineage.FloorsOf.{floor_among}
 use Rattle.rk_inv_rows.proofs.lineage.Histories.{history_of, range_at}
-use Rattle.rk_inv_rows.proofs.lineage.Pieces.{joined_unmarked, unmarked_stood}
+use Rattle.rk_inv_rows.proofs.lineage.Pieces.{joined_unmarked}
+use Rattle.rk_inv_base.proofs.views.Among.{unmarked_stood}
 use Rattle.rk_inv_rows.proofs.lineage.Scanned.{newest_scanned, scan_newest}
 use Rattle.rk_inv_rows.proofs.lineage.TakenOver.{HasBoth, TakesOver, above_fewer, live_over, plain_above, plain_fewer, table_over}
-use Rattle.rk_inv_rows.proofs.lineage.TargetMaterial.{HasJoinedLog, entry_stands, has_both, has_itself, none_behind_applied}
+use Rattle.rk_inv_rows.proofs.lineage.TargetMaterial.{HasJoinedLog, entry_stands, has_both, none_behind_applied}
 use Rattle.rk_inv_rows.proofs.lineage.LineageSays.{view_lineage_taken}
 use Rattle.rk_entry.specs.declared.entry.Entry.TheVariants as entries
 use Rattle.rk_transfer.specs.declared.role.Role.TheVariants as roles

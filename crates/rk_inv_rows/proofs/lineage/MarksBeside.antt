@@ -9,14 +9,12 @@ use Rattle.rk_inv_base.proofs.Words.{unmarked_from, touches, counting, counts, o
 use Rattle.rk_inv_base.proofs.Words.{Merged, beginning_in, target_truth, stored_of, CopyIn, GotAgrees, PulledAgrees, SaysOf, HasOwnRange}
 use Rattle.rk_inv_base.proofs.Words.{IsMergedOf, IsOfRange, IsPieceOf, IsRebuilder, MarkFits, MarkedFit, NeededOf, NeedsEnd, READ_BACKUP}
 use Rattle.rk_inv_base.proofs.Words.{RowIsRebuilt, StandsLast, marked_entries, member_given_up, member_marked, merged_place, stored_count}
-use Rattle.rk_inv_base.proofs.Words.{IsTarget, MembersFit, NamedFit, FirstIsDone, IsDone, HasItems, View, SoundView}
+use Rattle.rk_inv_base.proofs.Words.{IsTarget, MembersFit, NamedFit, FirstIsDone, IsDone, HasItems, View, SoundView, IsNeeded}
 use Rattle.rk_inv_rows.proofs.Words.{member as member_at, key_outside, all_by, apart_either, place_of, if_master, Misses, none_touches}
 use Rattle.rk_inv_rows.proofs.Words.{one_weaker, part_weaker, filter_stands, marks_taken}
 use Rattle.rk_entry.specs.declared.entry.Entry.TheVariants as entries
-use Rattle.rk_sound.specs.Rebuilds.{IsNeeded}
-use Rattle.rk_inv_rows.proofs.lineage.Among.{taken_from}
+use Rattle.rk_inv_base.proofs.views.Among.{taken_from, unmarked_place, unmarked_stands}
 use Rattle.rk_inv_rows.proofs.lineage.FewerMarks.{free_counts}
-use Rattle.rk_inv_rows.proofs.lineage.Pieces.{unmarked_place, unmarked_stands}
 use Rattle.rk_inv_rows.proofs.lineage.Untouched.{each_misses}
 use Rattle.rk_inv_rows.proofs.lineage.MarksTaken.{apart, fewer, marked_kept, material_kept, named_kept, rest_kept, silent_apart, taken_of}
 use Rattle.rk_inv_rows.proofs.lineage.MarksTaken.{truth_kept}

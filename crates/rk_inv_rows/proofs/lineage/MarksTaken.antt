@@ -1,30 +1,19 @@
 -- Where the marks of a row's tablet are taken away, all that is said of another row by what masters have written stays: what bore them is
 -- of the row's range alone.
-use Rattle.std.proofs.Common.{◌≡◌, ℕ, ◌+◌, ◌≤◌, Bool, true, false, ◌&&◌, ◌||◌, eqb, List, [], ◌∷◌, ◌++◌, Some, refl, sym, ap, ◌∙◌, ⊎_elim}
-use Rattle.std.proofs.Common.{arith, drop, filter, fold, max, nat_le, nat_lt, not, slice_get, Contains, flat_map, eqb-true, le-leb, lt-ltb}
+use Rattle.std.proofs.Common.{◌≡◌, ℕ, ◌+◌, ◌≤◌, Bool, true, false, ◌&&◌, eqb, List, [], ◌∷◌, ◌++◌, Some, refl, sym, ap, ◌∙◌, ⊎_elim, arith}
+use Rattle.std.proofs.Common.{drop, filter, fold, max, nat_le, nat_lt, not, slice_get, Contains, flat_map, eqb-true, le-leb, lt-ltb}
 use Rattle.rk_inv_base.proofs.Words.{and_from, and_parts, cases_Bool, false≢true, list_any, meets, Member, Range, Entry, is_in, lineage_of}
-use Rattle.rk_inv_base.proofs.Words.{Precedes, Row, stands_cases, items_of, is_mark_of, is_marked, unmarked_from, counting, material_of}
-use Rattle.rk_inv_base.proofs.Words.{named, side_entries, with_number, applied_entries, lineage_rest, lineage_truth, member_material}
-use Rattle.rk_inv_base.proofs.Words.{member_rest, member_truth, Mark, IsOfRange, member_marked, named_items, View, truths, rests, SoundView}
+use Rattle.rk_inv_base.proofs.Words.{Precedes, Row, items_of, is_mark_of, is_marked, unmarked_from, counting, material_of, named}
+use Rattle.rk_inv_base.proofs.Words.{side_entries, with_number, applied_entries, lineage_rest, lineage_truth, member_material, member_rest}
+use Rattle.rk_inv_base.proofs.Words.{member_truth, Mark, IsOfRange, member_marked, named_items, View, truths, rests, SoundView, list_any_at}
 use Rattle.rk_inv_rows.proofs.Words.{one_precedes, same_number, apart_either, entry_apart, place_of, any_kept, filter_stands, marks_taken}
-use Rattle.rk_inv_rows.proofs.lineage.Among.{taken_from}
-use Rattle.rk_inv_rows.proofs.lineage.Pieces.{IsCovered, covered_by, covered_of}
+use Rattle.rk_inv_base.proofs.views.Among.{taken_from, IsCovered, covered_by}
+use Rattle.rk_inv_rows.proofs.lineage.Pieces.{covered_of}
 use Rattle.rk_inv_rows.proofs.lineage.FewerMarks.{AreFewer, IsSilent, free_counts, free_names, marked_counts}
 
 -- a test passes on a list where one that stands there passes it
 any_stands : {X : Type 0} (p : X → Bool) (xs : List X) (x : X) → Contains xs x → p x ≡ true → list_any p xs ≡ true
-any_stands p [] x stands passes = absurd (omega (arith, stands.1))
-any_stands p (y ∷ xs) x stands passes =
-    ⊎_elim (λ (is : y ≡ x). first (p y) (ap p is ∙ passes)) (λ (behind : Contains xs x). later (p y) (any_stands p xs x behind passes))
-    (stands_cases y xs x stands)
-  where
-    first : (b : Bool) → b ≡ true → (b || list_any p xs) ≡ true
-    first true is = refl
-    first false is = absurd (false≢true is)
-
-    later : (b : Bool) → list_any p xs ≡ true → (b || list_any p xs) ≡ true
-    later true any = refl
-    later false any = any
+any_stands p xs x stands passes = list_any_at p xs stands.0 x stands.1 (ap p stands.2 ∙ passes)
 
 -- an entry of a rebuild of another range is silent
 pub silent_apart : (a b : Range) → meets a b ≡ false → meets b a ≡ false → b.first ≤ b.last → (entry : Entry) → IsOfRange a entry → IsSilent b entry

@@ -1,9 +1,9 @@
 -- What bears a mark in a log is of a row that is rebuilt: no Joined does, and it counts for no other row.
-use Rattle.std.proofs.Common.{◌≡◌, ℕ, zero, suc, ◌+◌, ◌-◌, ◌≤◌, ◌<◌, Bool, true, false, ◌&&◌, cond, List, [], ◌∷◌, Option, Some, refl}
-use Rattle.std.proofs.Common.{sym, ap, ◌∙◌, ⊎_elim, arith, drop, is_some, nat_le, nat_lt, slice_get, take, Contains, leb-true, ltb-true}
-use Rattle.rk_inv_base.proofs.Words.{and_parts, false_from_ne_true, false≢true, All-contains, Any-from_list_any, Range, Entry, Joined}
-use Rattle.rk_inv_base.proofs.Words.{number_of, row_of, Row, behind_stands, first_stands, stands_cases, is_marked, unmarked, counting}
-use Rattle.rk_inv_base.proofs.Words.{counts, Mark, IsOfRange, marked_entries, View, SoundView}
+use Rattle.std.proofs.Common.{◌≡◌, ℕ, suc, ◌-◌, Bool, true, false, cond, List, [], ◌∷◌, Option, Some, refl, ap, ⊎_elim, arith, drop}
+use Rattle.std.proofs.Common.{is_some, slice_get, take, Contains}
+use Rattle.rk_inv_base.proofs.Words.{false_from_ne_true, false≢true, All-contains, Range, Entry, Joined, number_of, row_of, Row, is_marked}
+use Rattle.rk_inv_base.proofs.Words.{unmarked, counting, counts, Mark, IsOfRange, marked_entries, View, SoundView}
+use Rattle.rk_inv_base.proofs.views.Among.{IsCovered, covered_by}
 use Rattle.rk_inv_rows.proofs.Words.{in_piece, found_stands, row_in}
 use Rattle.rk_entry.specs.declared.entry.Entry.TheVariants as entries
 
@@ -13,24 +13,6 @@ pub record IsOfRow (rows : List Row) (tablet : ℕ) (entry : Entry) : Type 0 whe
   pub stands : Contains rows row
   pub number : row.tablet ≡ tablet
   pub of : IsOfRange row.range entry
-
--- a mark covers a place
-pub record IsCovered (marks : List Mark) (place : ℕ) : Type 0 where
-  pub mark : Mark
-  pub stands : Contains marks mark
-  pub first : mark.first ≤ place
-  pub past : place < mark.past
-
-pub covered_by : (marks : List Mark) (place : ℕ) → is_marked marks place ≡ true → IsCovered marks place
-covered_by marks place marked =
-    let found = Any-from_list_any (λ (mark : Mark). nat_le mark.first place && nat_lt place mark.past) marks marked in
-    let parts = and_parts (nat_le found.1.first place) (nat_lt place found.1.past) found.4 in
-    record {
-      mark = found.1;
-      stands = (found.0, found.2, found.3);
-      first = leb-true found.1.first place parts.0;
-      past = ltb-true place found.1.past parts.1;
-    }
 
 module _ (v : View) (sound : SoundView v) (q : ℕ) where
   of_known : (mark : Mark) (entry : Entry) → Contains (v.written q).marks mark → Contains (take (mark.past - mark.first) (drop mark.first (v.written q).entries)) entry → (found : Option Row) → row_of v.rows mark.tablet ≡ found → is_some found ≡ true → IsOfRow v.rows mark.tablet entry
@@ -91,56 +73,3 @@ same_counts range marks place (entry ∷ list) none =
 
 pub taken_counts : (range : Range) (marks : List Mark) (place n : ℕ) (list : List Entry) → NoneCounts range marks place list → counting range (unmarked marks place (take n list)) ≡ counting range (take n list)
 taken_counts range marks place n list none = same_counts range marks place (take n list) (none_taken range marks place n list none)
-
--- ---- what stands without a mark
-
--- what is left without a mark stood there
-pub unmarked_stood : (marks : List Mark) (place : ℕ) (list : List Entry) (entry : Entry) → Contains (unmarked marks place list) entry → Contains list entry
-unmarked_stood marks place [] entry stands = stands
-unmarked_stood marks place (first ∷ list) entry stands = go (is_marked marks place) (unmarked_stood marks (suc place) list entry) stands
-  where
-    go : (b : Bool) → (Contains (unmarked marks (suc place) list) entry → Contains list entry) → Contains (cond b (unmarked marks (suc place) list) (first ∷ unmarked marks (suc place) list)) entry → Contains (first ∷ list) entry
-    go true behind stands = behind_stands first list entry (behind stands)
-    go false behind stands =
-        ⊎_elim (λ (is : first ≡ entry). rw (← is) (first_stands first list))
-        (λ (later : Contains (unmarked marks (suc place) list) entry).
-        behind_stands first list entry (behind later))
-        (stands_cases first (unmarked marks (suc place) list) entry stands)
-
--- and what bears none stands there
-pub unmarked_stands : (marks : List Mark) (place k : ℕ) (list : List Entry) (entry : Entry) → slice_get list k ≡ Some entry → is_marked marks (place + k) ≡ false → Contains (unmarked marks place list) entry
-unmarked_stands marks place k [] entry at free = absurd (cc at)
-unmarked_stands marks place zero (first ∷ list) entry at free = grind (arith, is_marked, first_stands, unmarked)
-unmarked_stands marks place (suc k) (first ∷ list) entry at free =
-    let there : place + suc k ≡ suc place + k = omega arith in
-    let later = unmarked_stands marks (suc place) k list entry at (ap (is_marked marks) (sym there) ∙ free) in
-    go (is_marked marks place) later
-  where
-    go : (b : Bool) → Contains (unmarked marks (suc place) list) entry → Contains (cond b (unmarked marks (suc place) list) (first ∷ unmarked marks (suc place) list)) entry
-    go true later = later
-    go false later = behind_stands first (unmarked marks (suc place) list) entry later
-
--- so what is left stands at a place that bears none
-pub record StandsFree (marks : List Mark) (place : ℕ) (list : List Entry) (entry : Entry) : Type 0 where
-  pub k : ℕ
-  pub at : slice_get list k ≡ Some entry
-  pub free : is_marked marks (place + k) ≡ false
-
-pub unmarked_place : (marks : List Mark) (place : ℕ) (list : List Entry) (entry : Entry) → Contains (unmarked marks place list) entry → StandsFree marks place list entry
-unmarked_place marks place [] entry stands = absurd (omega (arith, stands.1))
-unmarked_place marks place (first ∷ list) entry stands = go (is_marked marks place) refl (unmarked_place marks (suc place) list entry) stands
-  where
-    further : StandsFree marks (suc place) list entry → StandsFree marks place (first ∷ list) entry
-    further later =
-        let there : suc place + later.k ≡ place + suc later.k = omega arith in
-        record { k = suc later.k; at = later.at; free = ap (is_marked marks) (sym there) ∙ later.free }
-
-    go : (b : Bool) → is_marked marks place ≡ b → (Contains (unmarked marks (suc place) list) entry → StandsFree marks (suc place) list entry) → Contains (cond b (unmarked marks (suc place) list) (first ∷ unmarked marks (suc place) list)) entry → StandsFree marks place (first ∷ list) entry
-    go true is later stands = further (later stands)
-    go false is later stands =
-        ⊎_elim
-        (λ (same : first ≡ entry).
-        let here : place + 0 ≡ place = omega arith in
-        record { k = 0; at = ap Some same; free = ap (is_marked marks) here ∙ is })
-        (λ (behind : Contains (unmarked marks (suc place) list) entry). further (later behind))
-        (stands_cases first (unmarked marks (suc place) list) entry stands)

@@ -6,18 +6,10 @@ use Rattle.rk_inv_base.proofs.Words.{Ended, Held, Member, Entry, Owned, Row, new
 use Rattle.rk_inv_base.proofs.Words.{stands_cases, newest_items_are, newest_items, items_of, Gather, by_member, is_of_lineage, material_by}
 use Rattle.rk_inv_base.proofs.Words.{as_entries, copies_of, floor_by, floor_of, has_version, merge, member_material, member_truth, Merged}
 use Rattle.rk_inv_base.proofs.Words.{IsNext, MayTakeRebuilt, row_at, closing_carried, View, rests, truths, SoundView}
-use Rattle.rk_inv_rows.proofs.Words.{member as member_at, floor_above, floor_rises, filter_from, marks_taken}
+use Rattle.rk_inv_rows.proofs.Words.{member as member_at, floor_above, floor_rises, filter_from, marks_taken, floor_within, one_within}
 use Rattle.rk_entry.specs.declared.entry.Entry.TheVariants as entries
-use Rattle.rk_inv_rows.proofs.lineage.Among.{to_flat}
-use Rattle.rk_inv_rows.proofs.lineage.FloorsOf.{floor_within, one_within}
+use Rattle.rk_inv_base.proofs.views.Among.{mapped, to_flat}
 use Rattle.rk_inv_rows.proofs.lineage.RebuiltMaterial.{merged_is, now_done, own_done, truth_from}
-
-mapped_stands : {X Y : Type 0} (f : X → Y) (xs : List X) (x : X) → Contains xs x → Contains (map f xs) (f x)
-mapped_stands f [] x stands = absurd (none_stands x stands)
-mapped_stands {X} {Y} f (y ∷ xs) x stands =
-    ⊎_elim (λ (is : y ≡ x). rw (← ap f is) (first_stands (f y) (map f xs)))
-    (λ (behind : Contains xs x). behind_stands (f y) (map f xs) (f x) (mapped_stands f xs x behind))
-    (stands_cases y xs x stands)
 
 -- all that was gathered
 abbrev all_of : Gather → List Entry → List Entry
@@ -37,7 +29,7 @@ own_list gather own = go (is_of_lineage gather) refl
         Contains-append_left (map (λ (member : Member). material_by gather own member.master) gather.lineage) [] own
         (subst (Contains (map (λ (member : Member). material_by gather own member.master) gather.lineage))
         (cond-true (eqb found.1.master gather.own) own _ found.4)
-        (mapped_stands (λ (member : Member). material_by gather own member.master) gather.lineage found.1 stands))
+        (mapped (λ (member : Member). material_by gather own member.master) gather.lineage found.1 stands))
 
 -- a copy is one of the items of all
 copy_stands : (own all : List Held) (item : Held) → Contains (copies_of own all) item → Contains all item

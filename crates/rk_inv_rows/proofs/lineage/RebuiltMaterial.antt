@@ -10,12 +10,13 @@ use Rattle.rk_inv_base.proofs.Words.{counting, counts, named, named_by, side_ent
 use Rattle.rk_inv_base.proofs.Words.{member_material, member_truth, Mark, HasRebuilt, MayTakeRebuilt, HasOwnRange, IsMergedOf, IsOfRange}
 use Rattle.rk_inv_base.proofs.Words.{IsPieceOf, MarkFits, RowIsRebuilt, closing_carried, merged_place, IsDone, View, truths, SoundView}
 use Rattle.rk_inv_rows.proofs.Words.{member as member_at, in_one_row, one_precedes, behind_at, in_piece, place_of, Misses, none_touches}
-use Rattle.rk_inv_rows.proofs.Words.{any_kept, filter_from, filter_stands, marks_taken, SoundRow, row_in, kept_stands}
-use Rattle.rk_inv_rows.proofs.lineage.Among.{flat_among, from_flat, kept_among, later_all, number_from, number_to, place_in, taken_at}
-use Rattle.rk_inv_rows.proofs.lineage.Among.{taken_from, taken_within, to_flat}
+use Rattle.rk_inv_rows.proofs.Words.{any_kept, filter_from, filter_stands, marks_taken, SoundRow, row_in, kept_stands, has_itself}
+use Rattle.rk_inv_rows.proofs.lineage.Among.{flat_among, kept_among, later_all}
+use Rattle.rk_inv_base.proofs.views.Among.{from_flat, number_from, number_to, place_in, taken_at, taken_from, taken_within, to_flat}
+use Rattle.rk_inv_base.proofs.views.Among.{IsCovered, covered_by, unmarked_place, unmarked_stands}
 use Rattle.rk_inv_rows.proofs.lineage.MarksTaken.{taken_by}
-use Rattle.rk_inv_rows.proofs.lineage.Pieces.{IsCovered, covered_by, covered_of, unmarked_place, unmarked_stands}
-use Rattle.rk_inv_rows.proofs.lineage.TargetMaterial.{has_itself, meets_itself}
+use Rattle.rk_inv_rows.proofs.lineage.Pieces.{covered_of}
+use Rattle.rk_inv_rows.proofs.lineage.TargetMaterial.{meets_itself}
 use Rattle.rk_inv_rows.proofs.lineage.Untouched.{done_settled, each_misses}
 use Rattle.rk_inv_rows.proofs.lineage.Histories.{range_at}
 use Rattle.rk_entry.specs.declared.entry.Entry.TheVariants as entries

@@ -1,8 +1,8 @@
 -- What is known of a row where the master that rebuilt it owns it: it took another phase at its own term.
 use Rattle.std.proofs.Common.{◌≡◌, ℕ, true, eqb, List, Option, Some, sym, ap, ◌∙◌, arith, eq-eqb, eqb-true}
-use Rattle.rk_inv_base.proofs.Words.{cond_both, false≢true, Ended, Member, Role, Phase, Owned, Rebuilding, Row, Grant, Handed, is_member}
-use Rattle.rk_inv_base.proofs.Words.{or_left, is_wanting, GrantIn, HasRebuilt, MayTakeRebuilt, Bystander}
-use Rattle.rk_inv_base.proofs.Words.{FormerMember, Post, Holds, bond_of, post_of, rebuilder_post, View, SoundView}
+use Rattle.rk_inv_base.proofs.Words.{cond_both, false≢true, Ended, Member, Role, Owned, Rebuilding, Row, Grant, Handed, is_member, or_left}
+use Rattle.rk_inv_base.proofs.Words.{is_wanting, GrantIn, HasRebuilt, MayTakeRebuilt, Bystander, FormerMember, Post, Holds, bond_of}
+use Rattle.rk_inv_base.proofs.Words.{post_of, rebuilder_post, View, SoundView}
 use Rattle.rk_inv_rows.proofs.Words.{row_in}
 use Rattle.rk_inv_base.proofs.rows.Heirs.{heir_post}
 use Rattle.rk_inv_rows.proofs.lineage.LineageSays.{HasPassed}
@@ -24,9 +24,6 @@ place_told (roles.Rebuilding from (Some entry)) applied one other a b = sym a.1 
 place_told _ applied one other a b = absurd a
 
 module _ (v : View) (row : Row) (lineage : List Member) (to place : ℕ) (ends : List Ended) (sound : SoundView v) (may : MayTakeRebuilt v row lineage to place ends) where
-  abbrev old : Phase
-  old = Rebuilding lineage to
-
   abbrev terms : ℕ → ℕ
   terms q = (v.handovers q row.tablet).term
 

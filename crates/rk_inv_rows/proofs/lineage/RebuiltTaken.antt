@@ -28,14 +28,13 @@ use Rattle.rk_inv_rows.proofs.lineage.MarksBeside.{rebuilt_beside, says_beside, 
 use Rattle.rk_inv_rows.proofs.lineage.MarksTaken.{rests_kept, taken_by, truths_kept}
 use Rattle.rk_inv_base.proofs.rows.OtherRows.{all_others}
 use Rattle.rk_inv_rows.proofs.lineage.RebuiltCounter.{next_now}
-use Rattle.rk_inv_rows.proofs.lineage.RebuiltMaterial.{placed_within, settled}
+use Rattle.rk_inv_rows.proofs.lineage.RebuiltMaterial.{placed_within, settled, at}
 use Rattle.rk_inv_rows.proofs.lineage.LineageSays.{says, HasPassed, member_range}
 use Rattle.rk_inv_rows.proofs.lineage.RebuiltSays.{member_here, rebuilt_passes}
 use Rattle.rk_inv_rows.proofs.lineage.Untouched.{each_misses}
 use Rattle.rk_inv_base.proofs.views.ByRows.{staged_as}
 use Rattle.rk_inv_rows.proofs.lineage.FewerMarks.{waits_with}
 use Rattle.rk_transfer.specs.declared.role.Role.TheVariants as roles
-use Rattle.rk_inv_rows.proofs.lineage.RebuiltMaterial.{at}
 
 module _ (v : View) (row : Row) (lineage : List Member) (to place : ℕ) (ends : List Ended) (sound : SoundView v) (may : MayOwnRebuilt v row lineage to place ends) where
   -- the records that are made

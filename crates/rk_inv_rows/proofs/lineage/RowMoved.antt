@@ -9,8 +9,7 @@ use Rattle.rk_inv_base.proofs.Words.{target_truth, row_at, Bystander, MovingSour
 use Rattle.rk_inv_base.proofs.Words.{Holds, StillCounts, bond_of, post_of, speaks, IsBare, is_granted, wanted_place, IsDone, RoleFits}
 use Rattle.rk_inv_base.proofs.Words.{IsPlaced, HasItems, IsTableOf, has_all_items, View, truths, rests, SoundView}
 use Rattle.rk_inv_rows.proofs.Words.{member as member_at, MayMove, MayBeLeft, MayTakeLineage, MembersAgree, TellHistory, lineage_taken}
-use Rattle.rk_inv_rows.proofs.Words.{SoundRow, row_in}
-use Rattle.rk_inv_rows.proofs.lineage.FloorsOf.{floor_among}
+use Rattle.rk_inv_rows.proofs.Words.{SoundRow, row_in, floor_among}
 use Rattle.rk_inv_rows.proofs.lineage.Histories.{history_of, kept_stands, range_at}
 use Rattle.rk_inv_rows.proofs.lineage.LineageSays.{view_lineage_taken}
 use Rattle.rk_inv_rows.proofs.lineage.Untouched.{done_settled, names_none, rest_none, truth_none}
@@ -21,9 +20,6 @@ waits_at : (role : Role) (place : ℕ) (P : ℕ → Type 0) → role ≡ roles.W
 waits_at role place P is bare = subst (λ (r : Role). IfSome (wanted_place r) P) is bare
 
 module _ (v : View) (row : Row) (source sfrom target dfrom : ℕ) (given : Handed) (sound : SoundView v) (some : row.range.first ≤ row.range.last) (may : MayMove v row source sfrom target dfrom given) where
-  abbrev opened : Phase
-  opened = Opening source sfrom target (Some dfrom)
-
   abbrev moving : Phase
   moving = Moving source sfrom target dfrom
 
@@ -39,14 +35,11 @@ module _ (v : View) (row : Row) (source sfrom target dfrom : ℕ) (given : Hande
   abbrev last : Member
   last = member_at target dfrom
 
-  abbrev giver : Handover
-  giver = v.handovers source row.tablet
-
   -- what is known of the row
   row_was : SoundRow v row
   row_was = row_in v sound row may.has_row
 
-  in_phase : (P : Phase → Type 0) → P row.phase → P opened
+  in_phase : (P : Phase → Type 0) → P row.phase → P (Opening source sfrom target (Some dfrom))
   in_phase P = subst P may.phase_is
 
   -- ---- the target has nothing

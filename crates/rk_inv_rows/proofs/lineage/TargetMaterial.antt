@@ -4,20 +4,18 @@ use Rattle.std.proofs.Common.{arith, inl, inr, drop, filter, slice_get, take, ma
 use Rattle.rk_inv_base.proofs.Words.{cond-true, cond_both, nat_tests, drop-take, Contains-append_cases, Contains-append_left}
 use Rattle.rk_inv_base.proofs.Words.{Contains-append_right, filter-append, meets, Held, Range, Entry, Joined, is_in, none_stands}
 use Rattle.rk_inv_base.proofs.Words.{stands_cases, items_in, items_of, is_marked, unmarked, unmarked_from, counting, counts, is_joined_in}
-use Rattle.rk_inv_base.proofs.Words.{joined_from, log_material, named, named_by, side_entries, has_all, Mark, marked_entries}
+use Rattle.rk_inv_base.proofs.Words.{joined_from, log_material, named, named_by, side_entries, Mark, marked_entries}
 use Rattle.rk_inv_rows.proofs.Words.{behind_at, taken, filter_from, filter_stands, kept_stands}
 use Rattle.rk_entry.specs.declared.entry.Entry.TheVariants as entries
-use Rattle.rk_inv_rows.proofs.lineage.Among.{first_stand, from_flat, number_from, number_to, taken_at, to_flat}
-use Rattle.rk_inv_rows.proofs.lineage.Pieces.{taken_counts, unmarked_stands, unmarked_stood}
+use Rattle.rk_inv_rows.proofs.lineage.Among.{first_stand}
+use Rattle.rk_inv_base.proofs.views.Among.{from_flat, number_from, number_to, taken_at, to_flat, unmarked_stands, unmarked_stood}
+use Rattle.rk_inv_rows.proofs.lineage.Pieces.{taken_counts}
 use Rattle.rk_inv_rows.proofs.lineage.TakenOver.{HasBoth}
 
 -- ---- ranges
 
 pub meets_itself : (range : Range) → range.first ≤ range.last → meets range range ≡ true
 meets_itself range some = grind (arith, eqb, leb, nat_tests, range.table, range.first, range.last)
-
-pub has_itself : (range : Range) → has_all range range ≡ true
-has_itself range = grind (arith, eqb, leb, nat_tests, range.table, range.first, range.last)
 
 -- ---- entries
 

@@ -3,17 +3,18 @@
 use Rattle.std.proofs.Common.{◌≡◌, ℕ, ◌≤◌, Bool, true, false, arith, refl, sym, suc, max, cond, List, [], ◌∷◌, ◌++◌, filter, fold, ap, ◌∙◌}
 use Rattle.std.proofs.Common.{drop, nat_lt, slice_index_or, ◌-◌, All, flat_map, ◌<◌, ⊎_elim, append-nil, Option, ◌≢◌, AllPairs, ◌⊎◌, subst}
 use Rattle.std.proofs.Common.{Contains}
-use Rattle.rk_inv_base.proofs.Words.{nat_tests, has, meets, Range, has_all, cond_both, false≢true, All-append, All-cons, All-drop, All-head}
-use Rattle.rk_inv_base.proofs.Words.{All-map, All-nil, All-tail, All-take, All-weaker, filter-append, hash_of, Held, Member, Entry}
-use Rattle.rk_inv_base.proofs.Words.{FIRST_SIDE_SEGMENT, is_marked, unmarked, unmarked_from, as_entries, counting, counts, material_of}
-use Rattle.rk_inv_base.proofs.Words.{named, named_by, side_entries, with_number, Written, applied_entries, member_rest, member_truth, Mark}
-use Rattle.rk_inv_base.proofs.Words.{cases_Bool, cond-false, cond-true, All-filter, bytes_eq-Decides, Map, is_in, is_of_parts, is_of}
-use Rattle.rk_inv_base.proofs.Words.{newest, none_found, IsPlain, items_of, of_key, floor_by, floor_of, has_key, AreAboveMap, IsNext}
-use Rattle.rk_inv_base.proofs.Words.{AreAbove, IsTableOf, false_from_ne_true, All-contains, Ended, Placed, is_at_parts, IsLegal, is_at}
-use Rattle.rk_inv_base.proofs.Words.{live_after, map_after, Base, base_map, item_end, outcome_of, refusal_end, told, LastCall, TellAll}
-use Rattle.rk_inv_base.proofs.Words.{IsLastAsked, IsRest, IsStaged, call_end, call_ends, record_of_last, records_of, IsTruth, Call}
-use Rattle.rk_inv_base.proofs.Words.{Contains-append_left, Contains-append_right, filter_passes, lineage_of, Phase, Owned, Row, told_by}
-use Rattle.rk_inv_base.proofs.Words.{lineage_rest, lineage_truth, IsKnown, IsOfWholeRows, View, truths, rests, SoundView}
+use Rattle.rk_inv_base.proofs.Words.{nat_tests, has, meets, Range, has_all, cond_both, false≢true, All-append, All-drop, All-head, All-map}
+use Rattle.rk_inv_base.proofs.Words.{All-nil, All-tail, All-take, All-weaker, filter-append, hash_of, Held, Member, Entry}
+use Rattle.rk_inv_base.proofs.Words.{FIRST_SIDE_SEGMENT, unmarked_from, as_entries, counting, counts, material_of, named, named_by}
+use Rattle.rk_inv_base.proofs.Words.{side_entries, with_number, Written, applied_entries, member_rest, member_truth, Mark, cases_Bool}
+use Rattle.rk_inv_base.proofs.Words.{cond-false, cond-true, All-filter, bytes_eq-Decides, Map, is_in, is_of_parts, is_of, newest}
+use Rattle.rk_inv_base.proofs.Words.{none_found, IsPlain, items_of, of_key, floor_by, floor_of, has_key, AreAboveMap, IsNext, AreAbove}
+use Rattle.rk_inv_base.proofs.Words.{IsTableOf, false_from_ne_true, All-contains, Ended, Placed, is_at_parts, IsLegal, is_at, live_after}
+use Rattle.rk_inv_base.proofs.Words.{map_after, Base, base_map, item_end, outcome_of, refusal_end, told, LastCall, TellAll, IsLastAsked}
+use Rattle.rk_inv_base.proofs.Words.{IsRest, IsStaged, call_end, call_ends, record_of_last, records_of, IsTruth, Call, Contains-append_left}
+use Rattle.rk_inv_base.proofs.Words.{Contains-append_right, filter_passes, lineage_of, Phase, Owned, Row, told_by, lineage_rest}
+use Rattle.rk_inv_base.proofs.Words.{lineage_truth, IsKnown, IsOfWholeRows, View, truths, rests, SoundView}
+use Rattle.rk_inv_base.proofs.views.Among.{unmarked_all}
 use Rattle.rk_inv_rows.proofs.Words.{meets_either, IsHalf, IsOfWhole, live as live_items, record_of as live_of, floor_step, kept_stands}
 use Rattle.rk_inv_rows.proofs.Words.{all_by, filter_from, member as member_at, row_in}
 use Rattle.std.proofs.lemmas.List.Kept.{AllPairs-cons}
@@ -55,14 +56,6 @@ filter_finer {X} p q (x ∷ xs) all = go (p x) (q x) refl refl (filter_finer p q
     go true false ea eb later = absurd (false≢true (sym eb ∙ here ea))
     go false true ea eb later = later ∙ ap (λ (c : Bool). cond c (x ∷ filter p (filter q xs)) (filter p (filter q xs))) (sym ea)
     go false false ea eb later = later
-
--- what holds of entries holds of those without a mark
-pub unmarked_all : (P : Entry → Type 0) (marks : List Mark) (place : ℕ) (list : List Entry) → All P list → All P (unmarked marks place list)
-unmarked_all P marks place [] all = all
-unmarked_all P marks place (entry ∷ list) all =
-    let later = unmarked_all P marks (suc place) list (All-tail P entry list all) in
-    cond_both (is_marked marks place) (unmarked marks (suc place) list) (entry ∷ unmarked marks (suc place) list) (All P) (λ e. later)
-    (λ e. All-cons P entry (unmarked marks (suc place) list) (All-head P entry list all) later)
 
 module _ (whole half : Range) (is : IsHalf whole half) where
   abbrev AreOfWhole : List Entry → Type 0

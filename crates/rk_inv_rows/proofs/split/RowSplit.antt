@@ -3,16 +3,16 @@
 use Rattle.std.proofs.Common.{◌≡◌, ℕ, ◌+◌, ◌≤◌, true, false, Some, refl, sym, ap, ◌∙◌, ⊎_elim, arith, IfSome, is_some, All, Contains}
 use Rattle.std.proofs.Common.{flat_map, Bool, cond, List, [], ◌∷◌, ◌++◌, eqb, leb, ◌⊎◌, inl, inr, drop, filter, max, eq-eqb, slice_index_or}
 use Rattle.rk_inv_base.proofs.Words.{cases_eq, false≢true, All-contains, All-weaker, IfSome_then, hash_of, has, meets, Held, Range, Entry}
-use Rattle.rk_inv_base.proofs.Words.{Handover, Role, row_of, Row, Body, has_all, is_absent, HasWholeRows, IsEntryWithin}
-use Rattle.rk_inv_base.proofs.Words.{IsItemWithin, IsOfWholeRows, IsWithinRows, Bystander, Owner, Holds, bond_of, HandoverFits, SentFits}
-use Rattle.rk_inv_base.proofs.Words.{range_in, tenure_in, View, false_from_ne_true, cases_lt, or_from, or_parts, nat_tests, list_any, Call}
-use Rattle.rk_inv_base.proofs.Words.{Ended, Member, ends_of, is_serving, lineage_of, Owned, Rebuilding, last_of, touches, is_joined_in}
-use Rattle.rk_inv_base.proofs.Words.{is_idle, may_have_staged, Written, member_truth, IsKnown, IsStagedEnd, ReachAll, IsNext, speaks}
-use Rattle.rk_inv_base.proofs.Words.{OnlyIsUnnamed, Waits, IsTableOf, has_all_items, truths, rests, is_covered, Message, get, Post}
-use Rattle.rk_inv_base.proofs.Words.{HasOwnRange, MarkFits, SoundView}
-use Rattle.rk_inv_rows.proofs.Words.{covered_by, meets_either, IsHalf, all_by, same_number, waits_for, none_for_owned, row_in, IsNextOf}
-use Rattle.rk_inv_rows.proofs.Words.{SoundBeside, SoundRow, view_by_rows, as_half, bystander_stays}
-use Rattle.rk_sound.specs.Cover.{Cover}
+use Rattle.rk_inv_base.proofs.Words.{Handover, Role, row_of, Row, Body, has_all, is_absent, HasWholeRows, IsEntryWithin, IsItemWithin}
+use Rattle.rk_inv_base.proofs.Words.{IsOfWholeRows, IsWithinRows, Bystander, Owner, Holds, bond_of, HandoverFits, SentFits, range_in}
+use Rattle.rk_inv_base.proofs.Words.{tenure_in, View, false_from_ne_true, cases_lt, or_from, or_parts, nat_tests, list_any, Call, Ended}
+use Rattle.rk_inv_base.proofs.Words.{Member, ends_of, is_serving, lineage_of, Owned, Rebuilding, last_of, touches, is_joined_in, is_idle}
+use Rattle.rk_inv_base.proofs.Words.{may_have_staged, Written, member_truth, IsKnown, IsStagedEnd, ReachAll, IsNext, speaks, OnlyIsUnnamed}
+use Rattle.rk_inv_base.proofs.Words.{Waits, IsTableOf, has_all_items, truths, rests, is_covered, Message, get, Post, HasOwnRange, MarkFits}
+use Rattle.rk_inv_base.proofs.Words.{SoundView, Cover}
+use Rattle.rk_inv_base.proofs.rows.RowAdded.{meets_turned}
+use Rattle.rk_inv_rows.proofs.Words.{covered_by, IsHalf, all_by, same_number, waits_for, none_for_owned, row_in, IsNextOf, SoundBeside}
+use Rattle.rk_inv_rows.proofs.Words.{SoundRow, view_by_rows, as_half, bystander_stays}
 use Rattle.rk_inv_rows.proofs.split.Splitting.{Splitting, Halved, row, low, high, rows', in_row, each, kept, none_new, unknown_new}
 use Rattle.rk_inv_rows.proofs.split.Splitting.{low_half, high_half, covered_same, known_on, known_new, known_low, still_none, term_none}
 use Rattle.rk_inv_rows.proofs.split.Splitting.{Serves, half_met, half_apart, owner_fits, owner_range, low_apart, high_apart, by, split_row}
@@ -54,13 +54,7 @@ module _ (v : View) (cut : Splitting v) (after : Halved v cut) where
   open cut use {tablet, range, term, owner, from, at, new, sound, has_row}
   open after use {handovers', completions', pullings', gathers', merged', completions_away, pullings_away, gathers_away, merged_away, ends_stay}
 
-  -- ---- rows
-
   -- ---- terms
-
-  meets_turned : (a b : Range) → meets a b ≡ false → meets b a ≡ false
-  meets_turned a b none =
-      false_from_ne_true (meets b a) (λ met. false≢true (sym none ∙ meets_either b a met))
 
   old_fits : (q n : ℕ) (x : Row) → Contains v.rows x → HandoverFits x n (v.handovers q n)
   old_fits q n x has = All-contains (λ r. HandoverFits r n (v.handovers q n)) v.rows x (sound.terms.kept q n) has

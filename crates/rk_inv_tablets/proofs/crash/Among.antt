@@ -1,14 +1,9 @@
 -- What stands in lists that are made of others: of each element's list, and of the numbers that entries name.
-use Rattle.std.proofs.Common.{◌≡◌, ℕ, List, [], ◌++◌, Some, slice_get, Contains, flat_map}
+use Rattle.std.proofs.Common.{ℕ, List, [], Contains, flat_map}
 use Rattle.rk_inv_base.proofs.Words.{Range, Entry, named, named_by, slice_get_front}
 use Rattle.rk_inv_tablets.proofs.ready.OwnItems.{flat_stands, number_stands, named_from as joined_named}
+pub use Rattle.rk_inv_base.proofs.Words.{slice_get_front as stands_front}
 pub use Rattle.rk_inv_tablets.proofs.ready.OwnItems.{flat_from, flat_stands as flat_of, at_place as place_there}
-
--- ---- places
-
--- what stands at a place of a list stands there with more behind
-pub stands_front : {X : Type 0} (xs ys : List X) (k : ℕ) (x : X) → slice_get xs k ≡ Some x → slice_get (xs ++ ys) k ≡ Some x
-stands_front xs ys k x at = slice_get_front xs ys k x at
 
 -- ---- numbers that are named
 

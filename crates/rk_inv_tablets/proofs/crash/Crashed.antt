@@ -5,13 +5,11 @@ use Rattle.std.proofs.Common.{slice_index_or, ◌==◌, eq-eqb, ne_eqb, ◌<◌}
 use Rattle.rk_inv_base.proofs.Words.{cases_Bool, cases_eq, false≢true, or_left, or_right, All-contains, All-weaker, Contains-get_or}
 use Rattle.rk_inv_base.proofs.Words.{list_any-append, Member, Node, lineage_of, Phase, Rebuilding, Row, Body, Got, Pulled, ReadSegment}
 use Rattle.rk_inv_base.proofs.Words.{LAST_MAIN_SEGMENT, is_member, World, has_crashed, lives, PulledAgrees, GotAgrees, ReadIn, MarkFits}
-use Rattle.rk_inv_base.proofs.Words.{MarkedFit, AreApart, IsFormed, put, View, view, SoundView, false_from_ne_true, EachIn}
-use Rattle.rk_inv_tablets.proofs.Words.{put_by, put_is, put_other, if_master, MayCrashFormed, CountsFor, SaysIn}
+use Rattle.rk_inv_base.proofs.Words.{MarkedFit, AreApart, IsFormed, put, View, view, SoundView, false_from_ne_true, EachIn, SomeLives}
+use Rattle.rk_inv_tablets.proofs.Words.{put_by, put_is, put_other, if_master, MayCrashFormed, CountsFor, SaysIn, IsRebuiltIn}
 use Rattle.rk_world.specs.World.{with_crash}
 use Rattle.rk_inv_tablets.specs.crash.Small.{crashed}
 use Rattle.rk_inv_tablets.proofs.crash.MarksTold.{first_told, last_told, only_told, rebuilds_it}
-use Rattle.rk_inv_base.proofs.views.ByRows.{IsRebuiltIn}
-use Rattle.rk_sound.specs.Nodes.{SomeLives}
 
 module _ (v : View) (master : ℕ) (sound : SoundView v) (may : MayCrashFormed v master) where
   abbrev now : View

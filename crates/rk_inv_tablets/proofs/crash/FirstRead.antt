@@ -150,7 +150,7 @@ some_read ([] ∷ main) =
 some_read ((entry ∷ list) ∷ main) = inr (zero, omega arith, λ e. absurd (cc e))
 
 -- bytes that have all of what they begin
-all_parts : (whole bytes more : List ℕ) → whole ≡ bytes ++ more → length whole ≤ length bytes → bytes ≡ whole
+pub all_parts : (whole bytes more : List ℕ) → whole ≡ bytes ++ more → length whole ≤ length bytes → bytes ≡ whole
 all_parts whole bytes [] is few = sym (is ∙ append-nil bytes)
 all_parts whole bytes (byte ∷ more) is few = absurd (omega (arith, ap length is, length-append bytes (byte ∷ more), few))
 

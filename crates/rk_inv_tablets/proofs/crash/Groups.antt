@@ -1,10 +1,9 @@
 -- The main segments of a log are spelled by groups of its entries, one behind the other, and each entry ends where it does in its group.
 use Rattle.std.proofs.Common.{◌≡◌, ℕ, suc, ◌+◌, ◌-◌, ◌<◌, List, [], ◌∷◌, ◌++◌, length, map, set, refl, sym, ap, ◌∙◌, arith, append_assoc}
 use Rattle.std.proofs.Common.{length-append, flat_map, append-nil}
-use Rattle.std.proofs.Math.Seq.{set-append_seam}
 use Rattle.rk_inv_base.proofs.Words.{cond_both, get_or_push, length-map, map-append, flat_map-append, spelled, Entry, room_some, has_room}
 use Rattle.rk_inv_base.proofs.Words.{in_last, with_bytes, cut, end_of, ends_after, ends, EntryEnd}
-use Rattle.rk_inv_tablets.proofs.Words.{last_of, cut_after}
+use Rattle.rk_inv_tablets.proofs.Words.{last_of, cut_after, set-append_seam}
 use Rattle.rk_entry.specs.Entries.{spelled_all}
 pub use Rattle.rk_log.proofs.CutLaws.{spelled_one}
 

@@ -1,26 +1,21 @@
 -- What a rebuild gathered of a member is what the member wrote: its main segments give first entries of the log, each of which backup 1
 -- stores, and each side segment items of it.
-use Rattle.std.proofs.Common.{◌≡◌, ℕ, zero, suc, ◌+◌, ◌-◌, ◌<◌, ◌≤◌, true, false, List, [], ◌∷◌, ◌++◌, length, get_or, map, Option, Some}
-use Rattle.std.proofs.Common.{None, refl, sym, ap, subst, ◌∙◌, ⊎_elim, arith, nat_lt, unwrap_or, All, Contains, flat_map, lt-ltb, le-ltb}
-use Rattle.rk_inv_base.proofs.Words.{cases_lt, cond-false, false≢true, get_or_past, All-contains, All-cons, All-map, All-nil}
-use Rattle.rk_inv_base.proofs.Words.{Contains-append_left, Contains-append_right, list_all, option_map_or, get, Held, NumberedBytes}
-use Rattle.rk_inv_base.proofs.Words.{entries_of, spelled_all, IsLawfulEntry, IsLawfulHeld, Entry, FIRST_SIDE_SEGMENT, cut, ends, Known}
-use Rattle.rk_inv_base.proofs.Words.{is_whole, known_length, IsBackup, Log, bytes_of, is_side_stored, known_of, EntryEnd, Gathered}
-use Rattle.rk_inv_base.proofs.Words.{LAST_MAIN_SEGMENT, side_read, as_entries, side_entries, Written, IsCopy, IsLog, AreRead, IsGathered}
-use Rattle.rk_inv_base.proofs.Words.{READ_BACKUP}
-use Rattle.rk_inv_tablets.proofs.Words.{all_by, first_part_more, bytes_in, bytes_main, bytes_side, numbered_at, numbered_before}
-use Rattle.rk_inv_tablets.proofs.Words.{numbered_past}
+use Rattle.std.proofs.Common.{◌≡◌, ℕ, zero, suc, ◌+◌, ◌-◌, ◌<◌, ◌≤◌, true, false, List, [], ◌∷◌, length, get_or, map, Option, Some, None}
+use Rattle.std.proofs.Common.{refl, sym, ap, subst, ◌∙◌, ⊎_elim, arith, nat_lt, unwrap_or, All, Contains, flat_map, lt-ltb, le-ltb}
+use Rattle.rk_inv_base.proofs.Words.{cases_lt, cond-false, false≢true, get_or_past, All-map, Contains-append_left, list_all, option_map_or}
+use Rattle.rk_inv_base.proofs.Words.{get, Held, NumberedBytes, entries_of, spelled_all, IsLawfulEntry, IsLawfulHeld, Entry}
+use Rattle.rk_inv_base.proofs.Words.{FIRST_SIDE_SEGMENT, cut, ends, Known, is_whole, known_length, IsBackup, Log, bytes_of, is_side_stored}
+use Rattle.rk_inv_base.proofs.Words.{known_of, EntryEnd, Gathered, LAST_MAIN_SEGMENT, side_read, as_entries, side_entries, Written, IsCopy}
+use Rattle.rk_inv_base.proofs.Words.{IsLog, AreRead, IsGathered, READ_BACKUP}
+use Rattle.rk_inv_tablets.proofs.Words.{first_part_more, bytes_in, bytes_main, bytes_side, numbered_at, numbered_before, numbered_past}
+use Rattle.rk_inv_wellformed.proofs.maps.Lists.{all_given}
 use Rattle.rk_entry.specs.declared.entry.Entry.TheVariants as entries
 use Rattle.rk_inv_tablets.proofs.crash.FirstRead.{AreFirstStored, IsPartRead, first_read, segments_read}
 use Rattle.rk_inv_tablets.proofs.crash.Groups.{cut_groups, spelled_none}
 
 -- what holds of each thing of all lists holds of each of one
 pub all_groups : {X : Type 0} (P : X → Type 0) (groups : List (List X)) → All P (flat_map (λ group. group) groups) → All (All P) groups
-all_groups P [] all = All-nil (All P)
-all_groups {X} P (group ∷ groups) all =
-    let more : List X = flat_map (λ (group : List X). group) groups in
-    All-cons (All P) group groups (all_by P group (λ x at. All-contains P (group ++ more) x all (Contains-append_left group more x at)))
-    (all_groups P groups (all_by P more (λ x at. All-contains P (group ++ more) x all (Contains-append_right group more x at))))
+all_groups P groups all = all_given P (λ group. group) groups all
 
 -- the list at a place, the empty one behind all
 pub all_at : {X : Type 0} (P : X → Type 0) (groups : List (List X)) (k : ℕ) → All (All P) groups → All P (get_or groups k [])
@@ -45,14 +40,14 @@ module _ (log : Log) (w : Written) (stored : ℕ → ℕ → List ℕ) (kept : I
   abbrev known : Known
   known = known_of log READ_BACKUP
 
-  copy : IsCopy log (stored READ_BACKUP) (known_of log READ_BACKUP)
+  pub copy : IsCopy log (stored READ_BACKUP) (known_of log READ_BACKUP)
   copy = kept.copies READ_BACKUP backed
 
   module _ (Needed : EntryEnd → Type 0) (gathered : Gathered) (read : IsGathered Needed (known_of log READ_BACKUP) (stored READ_BACKUP) gathered) where
     -- ---- main segments
 
     -- a main segment by the group of entries that spells it
-    group_of : (k segment : ℕ) → 1 + k ≡ segment → segment < FIRST_SIDE_SEGMENT → (groups : List (List Entry)) → cut log.entries ≡ map spelled_all groups → bytes_of log segment ≡ spelled_all (get_or groups k [])
+    pub group_of : (k segment : ℕ) → 1 + k ≡ segment → segment < FIRST_SIDE_SEGMENT → (groups : List (List Entry)) → cut log.entries ≡ map spelled_all groups → bytes_of log segment ≡ spelled_all (get_or groups k [])
     group_of k segment is main groups are =
         let at : segment - 1 ≡ k = omega (arith, is) in
         bytes_main log segment (omega (arith, is)) main

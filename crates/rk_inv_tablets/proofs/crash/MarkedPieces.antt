@@ -1,8 +1,9 @@
 -- What counts of the marked entries of a living master that rebuilds a row stands in the piece that it merged.
-use Rattle.std.proofs.Common.{◌≡◌, ◌<◌, ◌≤◌, ◌+◌, ◌&&◌, ℕ, suc, true, List, [], ◌∷◌, Some, refl, ap, ◌∙◌, arith}
-use Rattle.std.proofs.Common.{All, Contains, is_some, nat_le, nat_lt, slice_get, leb-true, ltb-true}
-use Rattle.rk_inv_base.proofs.Words.{and_parts, cond_both, false≢true, All-cons, All-nil, Range, Entry, row_of, Row, is_marked, counting}
-use Rattle.rk_inv_base.proofs.Words.{counts, Mark, marked_entries, Any-from_list_any}
+use Rattle.std.proofs.Common.{◌≡◌, ◌<◌, ◌≤◌, ◌+◌, ℕ, suc, true, List, [], ◌∷◌, Some, refl, ap, ◌∙◌, arith, All, Contains, is_some}
+use Rattle.std.proofs.Common.{slice_get}
+use Rattle.rk_inv_base.proofs.Words.{cond_both, false≢true, All-cons, All-nil, Range, Entry, row_of, Row, is_marked, counting}
+use Rattle.rk_inv_base.proofs.views.Among.{covered_by}
+use Rattle.rk_inv_base.proofs.Words.{counts, Mark, marked_entries}
 
 -- what each marked entry has that counts, all of them have
 pub counted_each : (range : Range) (P : Entry → Type 0) (marks : List Mark) (place : ℕ) (list : List Entry) → ((k : ℕ) (entry : Entry) → slice_get list k ≡ Some entry → is_marked marks (place + k) ≡ true → counts range entry ≡ true → P entry) → All P (counting range (marked_entries marks place list))
@@ -32,14 +33,8 @@ pub record HasMark (marks : List Mark) (place : ℕ) : Type 0 where
 -- a marked place has one
 pub mark_of : (marks : List Mark) (place : ℕ) → is_marked marks place ≡ true → HasMark marks place
 mark_of marks place is =
-    let found = Any-from_list_any (λ (mark : Mark). nat_le mark.first place && nat_lt place mark.past) marks is in
-    let parts = and_parts (nat_le found.1.first place) (nat_lt place found.1.past) found.4 in
-    record {
-      mark = found.1;
-      here = (found.0, found.2, found.3);
-      from = leb-true found.1.first place parts.0;
-      before = ltb-true place found.1.past parts.1;
-    }
+    let covered = covered_by marks place is in
+    record { mark = covered.mark; here = covered.stands; from = covered.first; before = covered.past }
 
 -- the row of a tablet that has one
 pub row_there : (rows : List Row) (tablet : ℕ) → is_some (row_of rows tablet) ≡ true → (row : Row) × (row_of rows tablet ≡ Some row)

@@ -70,7 +70,7 @@ held_among (item ∷ list) entry at =
     ⊎_elim (λ (same : entries.Held item ≡ entry). (item, same)) (λ (later : Contains (as_entries list) entry). held_among list entry later)
     (contains_cases (entries.Held item) (as_entries list) entry at)
 
-side_held : (sides : List (List Held)) (number : ℕ) (entry : Entry) → Contains (side_entries sides number) entry → (item : Held) × (entries.Held item ≡ entry)
+pub side_held : (sides : List (List Held)) (number : ℕ) (entry : Entry) → Contains (side_entries sides number) entry → (item : Held) × (entries.Held item ≡ entry)
 side_held sides number entry =
     cond_both (nat_lt number FIRST_SIDE_SEGMENT) [] (as_entries (slice_index_or sides (number - FIRST_SIDE_SEGMENT) []))
     (λ list. Contains list entry → (item : Held) × (entries.Held item ≡ entry))
@@ -94,7 +94,7 @@ sides_named range m w entry at =
 
 -- ---- what counts of a member
 
-unmarked_grow : (marks : List Mark) (from : ℕ) (old new : List Entry) → Extends old new → Extends (unmarked_from marks from old) (unmarked_from marks from new)
+pub unmarked_grow : (marks : List Mark) (from : ℕ) (old new : List Entry) → Extends old new → Extends (unmarked_from marks from old) (unmarked_from marks from new)
 unmarked_grow marks from old new grown =
     let behind = drop_extends from old grown.more in
     let rest = unmarked_extends marks from (drop from old) behind.more in
@@ -123,11 +123,11 @@ truth_among written range m =
 all_meets : (s f l t g m : ℕ) → g ≤ m → (eqb s t && leb f g && leb m l) ≡ true → (eqb s t && leb f m && leb g l) ≡ true
 all_meets s f l t g m some all = grind (arith, nat_tests)
 
-counts_touches : (range : Range) (entry : Entry) → range.first ≤ range.last → counts range entry ≡ true → touches range entry ≡ true
+pub counts_touches : (range : Range) (entry : Entry) → range.first ≤ range.last → counts range entry ≡ true → touches range entry ≡ true
 counts_touches range entry some inside = grind (arith, all_meets, false≢true)
 
 -- where a marked piece stands last, all that counts and bears no mark stands before it
-before_piece : (range : Range) (w : Written) (mark : Mark) (from : ℕ) (entry : Entry) → range.first ≤ range.last → StandsLast range w mark → (is : IsUnmarked w.marks from w.entries entry) → counts range entry ≡ true → is.place < mark.first
+pub before_piece : (range : Range) (w : Written) (mark : Mark) (from : ℕ) (entry : Entry) → range.first ≤ range.last → StandsLast range w mark → (is : IsUnmarked w.marks from w.entries entry) → counts range entry ≡ true → is.place < mark.first
 before_piece range w mark from entry some last is inside =
     ⊎_elim (λ (before : is.place < mark.first). before)
     (λ (behind : mark.first ≤ is.place).

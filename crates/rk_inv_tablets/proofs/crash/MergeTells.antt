@@ -1,17 +1,17 @@
 -- What a rebuild merged tells nothing that is not told by what it read: neither its copies nor the entry that closes it.
-use Rattle.std.proofs.Common.{◌≡◌, ◌≤◌, ℕ, zero, List, [], ◌∷◌, ◌++◌, map, fold, Option, Some, None, refl, subst, ⊎_elim, arith, All}
-use Rattle.std.proofs.Common.{Contains, not, flat_map}
+use Rattle.std.proofs.Common.{◌≡◌, ◌≤◌, ℕ, zero, List, [], ◌∷◌, ◌++◌, map, Option, Some, None, refl, subst, ⊎_elim, arith, All, Contains}
+use Rattle.std.proofs.Common.{not, flat_map}
 use Rattle.rk_inv_base.proofs.Words.{cond_both, flat_map-append, All-append, All-cons, All-contains, All-filter, All-head, All-map, All-nil}
 use Rattle.rk_inv_base.proofs.Words.{All-tail, All-weaker, Contains-append_left, Contains-append_right, get, insert, Ended, Held, Entry}
 use Rattle.rk_inv_base.proofs.Words.{Completions, completions_from, ended_of, ends_of, is_later, noted, Completion, Handover, newest_items}
 use Rattle.rk_inv_base.proofs.Words.{item_end, items_in, items_of, told, told_by, Gather, by_member, counted_of, as_entries, ends_by_place}
 use Rattle.rk_inv_base.proofs.Words.{first_told, floor_by, floor_of, has_version, is_placed, merge, merged_ends, placed_ends, TellNoMore}
 use Rattle.rk_inv_base.proofs.Words.{closing_carried}
-use Rattle.rk_inv_tablets.proofs.Words.{contains_cases, all_by, all_flat, floor_first}
-use Rattle.rk_inv_base.proofs.logs.Floors.{floor_above, floor_rises, floor_step}
+use Rattle.rk_inv_tablets.proofs.Words.{contains_cases, all_by, all_flat, floor_first, All_insert, each_from_pairs}
+use Rattle.rk_inv_base.proofs.logs.Floors.{floor_above}
+use Rattle.rk_inv_base.proofs.logs.FloorsOf.{floor_within, one_within}
 use Rattle.rk_inv_tablets.proofs.ready.OwnItems.{flat_stands}
 use Rattle.rk_inv_tablets.proofs.merge.OfRange.{by_member_all, newest_stand}
-use Rattle.rk_inv_wellformed.proofs.maps.Maps.{All_insert, each_from_pairs}
 use Rattle.rk_entry.specs.declared.entry.Entry.TheVariants as entries
 
 -- an entry tells nothing that these do not
@@ -19,17 +19,6 @@ pub record IsToldBy (others : List Entry) (entry : Entry) : Type 0 where
   pub items : All (Contains (items_of others)) (items_in entry)
   pub ends : All (Contains (told others)) (told_by entry)
   pub floor : floor_by 1 entry ≤ floor_of others
-
--- a floor that is low stays so by an entry whose own floor is low
-floor_under : (floor bound : ℕ) (entry : Entry) → floor ≤ bound → floor_by 1 entry ≤ bound → floor_by floor entry ≤ bound
-floor_under floor bound entry low its = grind arith
-
-floors_under : (floor bound : ℕ) (list : List Entry) → floor ≤ bound → All (λ entry. floor_by 1 entry ≤ bound) list → fold floor_by floor list ≤ bound
-floors_under floor bound [] low each = low
-floors_under floor bound (entry ∷ list) low each =
-    let Low : Entry → Type 0 = λ e. floor_by 1 e ≤ bound in
-    floors_under (floor_by floor entry) bound list (floor_under floor bound entry low (All-head Low entry list each))
-    (All-tail Low entry list each)
 
 -- entries tell nothing that others do not, where none of them does
 pub all_told : (list others : List Entry) → All (IsToldBy others) list → TellNoMore list others
@@ -41,7 +30,8 @@ all_told list others each = record {
   ends =
       all_flat (Contains (told others)) told_by list
       (All-weaker (IsToldBy others) (λ e. All (Contains (told others)) (told_by e)) (λ e its. its.ends) list each);
-  floor = grind (arith, floors_under, floor_of, floor_first, floor_by);
+  floor =
+      floor_within (floor_of others) list (floor_first others) (λ entry at. (All-contains (IsToldBy others) list entry each at).floor);
 }
 
 -- the end of a call that left an item is told where the item stands
@@ -159,29 +149,12 @@ piece_told own members handover others tells =
 
 -- ---- entries that stand among others
 
--- a floor is as great from a greater one on
-floor_more : (a b : ℕ) (entry : Entry) → a ≤ b → floor_by a entry ≤ floor_by b entry
-floor_more a b entry less = grind arith
-
--- an entry's floor is not above that of all
-floor_stands : (floor : ℕ) (list : List Entry) (entry : Entry) → 1 ≤ floor → Contains list entry → floor_by 1 entry ≤ fold floor_by floor list
-floor_stands floor [] entry some at = absurd (omega (arith, at.1))
-floor_stands floor (first ∷ list) entry some at =
-    let step = floor_step floor first in
-    ⊎_elim
-    (λ (same : first ≡ entry).
-    let one = floor_more 1 floor first some in
-    let rest = floor_rises (floor_by floor first) list in
-    rw (← same) (omega (arith, one, rest)))
-    (λ (later : Contains list entry). floor_stands (floor_by floor first) list entry (omega (arith, some, step)) later)
-    (contains_cases first list entry at)
-
 -- an entry that stands among others is told by them
 pub stands_told : (others : List Entry) (entry : Entry) → Contains others entry → IsToldBy others entry
 stands_told others entry at = record {
   items = all_by _ (items_in entry) (λ item its. flat_stands items_in others entry item at its);
   ends = all_by _ (told_by entry) (λ end its. flat_stands told_by others entry end at its);
-  floor = floor_stands 1 others entry (omega arith) at;
+  floor = one_within 1 others entry (omega arith) at;
 }
 
 -- so are all of some, where others have them

@@ -24,7 +24,7 @@ abbrev pub side_material : Range → Member → Written → List Entry
 side_material range member w = counting range (flat_map (side_entries w.sides) (named range (unmarked_from w.marks member.from w.entries)))
 
 -- the segments that an entry names for a range are among those that it names
-named_in : (range : Range) (entry : Entry) (n : ℕ) → Contains (named_by range entry) n → Contains (segments_in entry) n
+pub named_in : (range : Range) (entry : Entry) (n : ℕ) → Contains (named_by range entry) n → Contains (segments_in entry) n
 named_in range entry n = grind (arith, cond_both)
 
 -- how many first entries of a member's log backup 1 stores

@@ -13,7 +13,7 @@ use Rattle.rk_inv_base.proofs.Words.{IsTarget, MembersFit, NamedFit, entries_fro
 use Rattle.rk_inv_base.proofs.Words.{Rebuilding, Mark, HasOwnRange, MarkFits, RowIsRebuilt, has_merged, meets, is_member, Master}
 use Rattle.rk_inv_base.proofs.Words.{with_appended, is_absent, without_merged, World, master_at, tablet_in, RoleFits, HandoverFits, view}
 use Rattle.rk_inv_base.proofs.Words.{CoverOf, SoundView, target_truth, items_in, is_idle, may_have_staged, IsSettledIn, AreAbove, EachIn}
-use Rattle.rk_inv_base.proofs.Words.{IsRest, IsWithinRows, Message, row_of}
+use Rattle.rk_inv_base.proofs.Words.{IsRest, IsWithinRows, Message, row_of, none_stands}
 use Rattle.rk_inv_tablets.proofs.Words.{calls_more, speaker_is, CountsFor, SpeaksFor, named_stays, joined_same, AreBelow, own_push}
 use Rattle.rk_inv_tablets.proofs.Words.{as_granted, applied_within, joins_beside, IsRebuilderIn, all_by, view_by_rows, SoundRow}
 use Rattle.rk_inv_tablets.proofs.Words.{SoundBeside, put_same, view_master, tablet_apart, tablet_here, terms_look, granted}
@@ -29,7 +29,6 @@ use Rattle.rk_inv_tablets.proofs.grow.Grown.{rows_more, truths_same, unnamed_mor
 use Rattle.rk_table.proofs.Tokens.{passed_first}
 use Rattle.rk_world.specs.Handovers.{tablet_granted}
 use Rattle.rk_inv_tablets.proofs.grant.GrantedMessages.{says_here}
-use Rattle.rk_inv_tablets.proofs.ready.OwnItems.{none_stands}
 use Rattle.rk_inv_base.proofs.logs.Missed.{counts_none}
 use Rattle.rk_inv_tablets.proofs.merge.Pieces.{none_filtered}
 use Rattle.rk_message.specs.declared.message.Body.TheVariants as bodies

@@ -8,10 +8,10 @@ use Rattle.rk_inv_base.proofs.Words.{SoundView, is_absent, stored_count, cases_B
 use Rattle.rk_inv_base.proofs.Words.{is_opening, Post, bond_of, post_of, rebuilder_post, Holds, IsFormed}
 use Rattle.rk_inv_tablets.proofs.Words.{put_by, put2_by, put2_here, put2_other, put_other, applied_within, last_member, rest_inside}
 use Rattle.rk_inv_tablets.proofs.Words.{MayGrantFormed, as_granted, granted, row_in, SoundRow, logs_grown, none_stored, stored_push}
-use Rattle.rk_inv_tablets.proofs.Words.{needed_grown, speaker_of}
+use Rattle.rk_inv_tablets.proofs.Words.{needed_grown, speaker_of, has_itself}
 use Rattle.rk_inv_tablets.proofs.grow.Turned.{IsTurned}
 use Rattle.rk_inv_tablets.proofs.grow.Grown.{Growing}
-use Rattle.rk_inv_tablets.proofs.grow.MoreLog.{more_itself, HasMore, more_one, has_itself}
+use Rattle.rk_inv_tablets.proofs.grow.MoreLog.{more_itself, HasMore, more_one}
 use Rattle.rk_inv_tablets.proofs.ready.Outside.{second_member, last_post}
 use Rattle.rk_transfer.specs.declared.role.Role.TheVariants as roles
 use Rattle.rk_transfer.specs.declared.role.Role.TheVariants as roles

@@ -19,8 +19,8 @@ use Rattle.rk_inv_tablets.proofs.Words.{member as member_at, truth_by, truth_is,
 use Rattle.rk_inv_tablets.proofs.Words.{IsBareOf, waits_then, applied_within, Extends, extends_behind, tells_extended, rows_apart}
 use Rattle.rk_inv_tablets.proofs.Words.{same_number, meets_either, stands_found, target_truth_same, SaysIn, SoundRow, row_in, covered_by}
 use Rattle.rk_inv_tablets.proofs.Words.{all_by, needed_member, part_weaker, rebuilder_weaker, SeenTablet, alone, row_kept, seen_at}
-use Rattle.rk_inv_tablets.proofs.Words.{by_master, if_master, CountsFor, IsNextOf, SpeaksFor, all_items_same}
-use Rattle.rk_inv_tablets.proofs.grow.MoreLog.{HasMore, LeavesRange, has_itself, joined_more, leaves_more, target_leaves, touched_more}
+use Rattle.rk_inv_tablets.proofs.Words.{by_master, if_master, CountsFor, IsNextOf, SpeaksFor, all_items_same, has_itself}
+use Rattle.rk_inv_tablets.proofs.grow.MoreLog.{HasMore, LeavesRange, joined_more, leaves_more, target_leaves, touched_more}
 use Rattle.rk_inv_tablets.proofs.grow.MoreLog.{waits_by, rest_by}
 use Rattle.rk_inv_tablets.proofs.merge.Pieces.{at_front}
 use Rattle.rk_entry.specs.declared.entry.Entry.TheVariants as entries

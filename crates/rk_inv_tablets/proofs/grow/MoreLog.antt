@@ -2,14 +2,14 @@
 -- it saw.
 use Rattle.std.proofs.Common.{◌≡◌, ℕ, ◌+◌, ◌<◌, ◌≤◌, ◌⊎◌, Bool, true, false, List, [], ◌∷◌, ◌++◌, filter, fold, length, Option, Some, refl}
 use Rattle.std.proofs.Common.{sym, ap, ◌∙◌, subst, ⊎_elim, inl, inr, arith, All, Contains, slice_get, drop, take, flat_map, append-nil}
-use Rattle.std.proofs.Common.{length-append, length-take, eqb, leb, append_assoc}
+use Rattle.std.proofs.Common.{length-append, length-take, append_assoc}
 use Rattle.rk_inv_base.proofs.Words.{cases_lt, false≢true, take-append-le, All-cons, All-contains_itself, All-nil, All-push, All-weaker}
 use Rattle.rk_inv_base.proofs.Words.{Contains-append_left, flat_map-append, slice_get_push_cases, list_any, meets, Held, Range, Entry}
 use Rattle.rk_inv_base.proofs.Words.{is_in, Handover, Row, Handed, items_of, is_marked, unmarked_from, touches, counting, counts}
 use Rattle.rk_inv_base.proofs.Words.{is_joined_in, joined_from, log_material, material_of, named_by, side_entries, with_number, Pulling}
 use Rattle.rk_inv_base.proofs.Words.{Written, applied_entries, Mark, IsOfRange, IsTarget, is_call_entry, named_items, with_one_more}
-use Rattle.rk_inv_base.proofs.Words.{has_all, nat_tests, slice_get_within, list_any_none, Waits, Call, may_have_staged, All-head, All-tail}
-use Rattle.rk_inv_base.proofs.Words.{Member, member_rest, lineage_rest}
+use Rattle.rk_inv_base.proofs.Words.{slice_get_within, list_any_none, Waits, Call, may_have_staged, All-head, All-tail, Member, member_rest}
+use Rattle.rk_inv_base.proofs.Words.{lineage_rest}
 use Rattle.rk_inv_tablets.proofs.Words.{Extends, counting_extends, take_extends, apart_either, entry_apart, unless_marked}
 use Rattle.rk_inv_tablets.proofs.Words.{unmarked_from_last, unmarked_from_none, with_piece, target_pushed}
 use Rattle.rk_inv_tablets.proofs.merge.OfRange.{joins_none, touches_none}
@@ -39,10 +39,6 @@ module _ (range : Range) (source : ℕ) (truth material : List Entry) (from : �
       (target_more (with_one_more w e) list (omega (arith, fits, size)) (omega (arith, placed, size)) (All-tail (IsBeside range) e list beside)
       (target_pushed range source truth material from handover pulling handed table w e fits placed one.joined
       (λ counted. absurd (false≢true (sym one.uncounted ∙ counted))) was))
-
--- a range has all of itself
-pub has_itself : (range : Range) → has_all range range ≡ true
-has_itself range = grind (arith, eqb, leb, nat_tests, range.table, range.first, range.last)
 
 -- of the entries from a place on those without a mark are those that were, and some of a row's range behind them
 pub record HasFree (row : Row) (old new : Written) (from : ℕ) : Type 0 where

@@ -4,13 +4,12 @@ use Rattle.std.proofs.Common.{arith, append_assoc, lt-ltb, ltb-true, append-nil,
 use Rattle.rk_inv_base.proofs.Words.{cases_eq, cases_lt, cond_both, get_or_past, All-append, All-push, All-weaker, Node, spelled, Entry}
 use Rattle.rk_inv_base.proofs.Words.{FIRST_SIDE_SEGMENT, cut_push, cut, has_room, in_last, with_bytes, Log, bytes_of, committed}
 use Rattle.rk_inv_base.proofs.Words.{is_side_stored, known_of, with_entry, Body, Written, Mark, IsFirstPart, IsFromLog, IsLog, LogSays}
-use Rattle.rk_inv_base.proofs.Words.{Logs, is_main, segments_in, stored_of, put, View, LogsOf}
+use Rattle.rk_inv_base.proofs.Words.{Logs, is_main, segments_in, stored_of, put, View, LogsOf, committed_entry}
 use Rattle.rk_inv_tablets.proofs.Words.{last_of, put_by, put_here, put_other, copy_grown, first_part_more, piece_grown, Grows, bytes_main}
 use Rattle.rk_inv_tablets.proofs.Words.{bytes_side, bytes_zero, first_part_same, with_bytes_front, with_bytes_full, with_entries}
 use Rattle.rk_inv_tablets.proofs.Words.{with_piece}
 use Rattle.rk_types.specs.declared.node.Node.TheVariants as nodes
 use Rattle.rk_message.specs.declared.message.Body.TheVariants as bodies
-use Rattle.rk_log.proofs.LogLaws.{committed_entry}
 
 -- ---- one more entry, where the main segments then are few
 

@@ -1,34 +1,69 @@
 -- A view stays sound when a rebuild merges what it gathered: its piece bears the only mark of the tablet there, its master does not speak for
 -- the row and is no target, and the ends that it keeps are told by the truth or the rest of the row.
-use Rattle.std.proofs.Common.{◌≡◌, ℕ, zero, suc, ◌-◌, List, [], ◌∷◌, ◌++◌, filter, length, refl, sym, ap, ◌∙◌, ⊎_elim, arith, length-append}
+use Rattle.std.proofs.Common.{arith, ℕ, [], ◌∷◌, refl, ◌≡◌, zero, suc, ◌-◌, List, ◌++◌, filter, length, sym, ap, ◌∙◌, ⊎_elim, length-append}
 use Rattle.std.proofs.Common.{All, drop, take, flat_map, true, inr, ◌⊎◌, Some, inl, Contains, eq-eqb, IfSome, ◌≤◌, false}
+use Rattle.rk_inv_base.proofs.Words.{All-cons, All-head, Node, Role, Body, Rebuilt, RebuiltIn, View, cases_eq, EachIn, All-nil}
 use Rattle.rk_inv_base.proofs.Words.{take-append-le, All-push, Contains-append_right, list_any, Range, Entry, is_in, completions_from}
 use Rattle.rk_inv_base.proofs.Words.{lineage_of, Phase, Rebuilding, known_of, items_of, Gather, by_member, touches, named, side_entries}
 use Rattle.rk_inv_base.proofs.Words.{merge, own_place, Written, Mark, stored_of, HasOwnRange, IsPieceOf, IsRebuilder, MarkFits, NeededOf}
-use Rattle.rk_inv_base.proofs.Words.{READ_BACKUP, RowIsRebuilt, named_items, View, truths, cases_eq, cond-true, false≢true, get, Member}
-use Rattle.rk_inv_base.proofs.Words.{is_member, member_material, member_truth, post_of, rebuilder_post, HandedFits}
-use Rattle.rk_inv_base.proofs.Words.{IsTarget, MembersFit, NamedFit, is_granted, All-contains, All-weaker, Ended}
-use Rattle.rk_inv_base.proofs.Words.{ends_of, is_serving, told, is_rebuilding, IsKnown, IsStagedEnd, ReachAll, IsNext, is_wanting, speaks}
-use Rattle.rk_inv_base.proofs.Words.{StillCounts, rests, CallsOf, Tablet, IfSome_then, SoundView, target_truth, handed_for_grant}
-use Rattle.rk_inv_base.proofs.Words.{handed_by, is_idle, may_have_staged, IsSettledIn, EachIn, IsMergedOf, Message, is_absent}
-use Rattle.rk_inv_tablets.proofs.Words.{member as member_at, put2_here, IsRebuilderIn, all_by, drop_all, with_piece, AreAlike, calls_alike}
-use Rattle.rk_inv_tablets.proofs.Words.{IsHeir, heir_post, IsToldIn, CountsFor, SpeaksFor, view_by_rows, SoundRow, SoundBeside}
-use Rattle.rk_inv_tablets.proofs.Words.{still_counts, handed_for_grant_alike, handed_by_alike, cover_looks, terms_looks, role_looks}
-use Rattle.rk_inv_tablets.proofs.Words.{terms_look, IsBareOf, IsNextOf}
-use Rattle.rk_inv_tablets.proofs.merge.Merging.{Merging, closing, first, free_same, inside, mark, material_same, merged, mine, new, now}
-use Rattle.rk_inv_tablets.proofs.merge.Merging.{of_written, old, own_is, past_is, piece, piece_length, rebuilder, rebuilt, term_is}
-use Rattle.rk_inv_tablets.proofs.merge.Merging.{unmarked, within, rest_same, tablet, turned, row_was, looks, new_role, of_handover, role_is}
-use Rattle.rk_inv_tablets.proofs.merge.Merging.{sides_same, by_role, gathers, applied_same, rests_same, grow}
+use Rattle.rk_inv_base.proofs.Words.{READ_BACKUP, RowIsRebuilt, named_items, truths, cond-true, false≢true, get, Member, is_member}
+use Rattle.rk_inv_base.proofs.Words.{member_material, member_truth, post_of, rebuilder_post, HandedFits, IsTarget, MembersFit, NamedFit}
+use Rattle.rk_inv_base.proofs.Words.{is_granted, All-contains, All-weaker, Ended, ends_of, is_serving, told, is_rebuilding, IsKnown}
+use Rattle.rk_inv_base.proofs.Words.{IsStagedEnd, ReachAll, IsNext, is_wanting, speaks, StillCounts, rests, CallsOf, Tablet, IfSome_then}
+use Rattle.rk_inv_base.proofs.Words.{SoundView, target_truth, handed_for_grant, handed_by, is_idle, may_have_staged, IsSettledIn}
+use Rattle.rk_inv_base.proofs.Words.{IsMergedOf, Message, is_absent, take_all}
+use Rattle.rk_inv_tablets.proofs.Words.{put2_other, by_master, messages_looks, SaysIn, member as member_at, put2_here, IsRebuilderIn}
+use Rattle.rk_inv_tablets.proofs.Words.{all_by, drop_all, with_piece, AreAlike, calls_alike, IsHeir, heir_post, IsToldIn, CountsFor}
+use Rattle.rk_inv_tablets.proofs.Words.{SpeaksFor, view_by_rows, SoundRow, SoundBeside, still_counts, handed_for_grant_alike}
+use Rattle.rk_inv_tablets.proofs.Words.{handed_by_alike, cover_looks, terms_looks, role_looks, terms_look, IsBareOf, IsNextOf}
+use Rattle.rk_inv_tablets.proofs.Words.{drop-append_seam}
+use Rattle.rk_inv_tablets.proofs.merge.Merging.{Merging, gathers, looks, merged, now, rebuilt, role_is, row_was, grow, closing, first}
+use Rattle.rk_inv_tablets.proofs.merge.Merging.{free_same, inside, mark, material_same, mine, new, of_written, old, own_is, past_is, piece}
+use Rattle.rk_inv_tablets.proofs.merge.Merging.{piece_length, rebuilder, term_is, unmarked, within, rest_same, tablet, turned, new_role}
+use Rattle.rk_inv_tablets.proofs.merge.Merging.{of_handover, sides_same, by_role, applied_same, rests_same}
+use Rattle.rk_inv_tablets.proofs.grow.Grown.{grown, says_more, SameFirst, marked_more, rebuilds_now, rebuilds_other, truth_same}
+use Rattle.rk_inv_tablets.proofs.grow.Grown.{target_same, placed_more, done_more, unnamed_more, cover_more, found_more, bare_more}
+use Rattle.rk_inv_tablets.proofs.grow.Grown.{rows_more, truths_same, known_more, items_more, waiting_more}
 use Rattle.rk_inv_tablets.proofs.merge.Pieces.{from_piece}
-use Rattle.std.proofs.Math.Seq.{drop-append_seam}
-use Rattle.std.proofs.lemmas.List.{take_all}
-use Rattle.rk_inv_tablets.proofs.grow.Grown.{SameFirst, marked_more, rebuilds_now, rebuilds_other, truth_same, target_same, placed_more}
-use Rattle.rk_inv_tablets.proofs.grow.Grown.{done_more, unnamed_more, cover_more, found_more, bare_more, rows_more, truths_same, known_more}
-use Rattle.rk_inv_tablets.proofs.grow.Grown.{items_more, waiting_more}
 use Rattle.rk_inv_tablets.proofs.grow.Turned.{of_tablet, seen_apart}
 use Rattle.rk_inv_tablets.proofs.ready.Outside.{second_member, former_behind}
 use Rattle.rk_inv_tablets.proofs.merge.Collected.{collected}
-use Rattle.rk_inv_tablets.proofs.merge.MergedMessages.{says_here}
+use Rattle.rk_transfer.specs.declared.role.Role.TheVariants as roles
+
+-- What messages say of a row for which a rebuild merges: no report tells what its master had merged before, and all else looks as it did.
+
+module _ (v : View) (a : Merging v) where
+  -- the view with the piece in the log, and with what the master keeps and merged
+  abbrev kept : View
+  kept = record v {
+    rows = a.row ∷ [];
+    logs = (now v a).logs;
+    written = (now v a).written;
+    completions = (now v a).completions;
+    merged = (now v a).merged;
+  }
+
+  -- a master that merged has told no Rebuilt before
+  rebuilt_on : (q applied : ℕ) (report : Rebuilt) → RebuiltIn a.row.phase (v.handovers q a.row.tablet) (v.merged q a.row.tablet) applied a.row.term q report → RebuiltIn a.row.phase (v.handovers q a.row.tablet) ((now v a).merged q a.row.tablet) applied a.row.term q report
+  rebuilt_on q applied report says = grind (arith, merged, now, gathers, role_is, put2_other, cases_eq)
+
+  says_kept : (from to : Node) (body : Body) → SaysIn (grown v (grow v a)) a.row from to body → SaysIn kept a.row from to body
+  says_kept from to body = grind (arith, by_master, rebuilt, now, rebuilt_on)
+
+  -- each message says of the row what it said
+  pub says_here : EachIn (λ n m. SaysIn (now v a) a.row m.from m.to m.body) v.wire
+  says_here n m there =
+      All-head (λ x. SaysIn (now v a) x m.from m.to m.body) a.row []
+      ((messages_looks kept (now v a).logs (now v a).written (now v a).handovers
+      (record { each = looks v a; applied = λ q. refl; truths = λ range member. refl }) (λ q. refl) (λ x lineage q dead end needed. needed)
+      (record {
+        of_rows = λ n m there.
+            All-cons (λ x. SaysIn kept x m.from m.to m.body) a.row []
+            (says_kept m.from m.to m.body
+            (says_more v (grow v a) a.row a.has_row m.from m.to m.body ((row_was v a).says n m there)))
+            (All-nil _);
+        others = a.sound.messages.others;
+      })).of_rows n m there)
 
 module _ (v : View) (a : Merging v) where
   abbrev written : ℕ → Written

@@ -5,8 +5,7 @@ use Rattle.std.proofs.Common.{lt-ltb, take_all, ◌-◌}
 use Rattle.rk_inv_base.proofs.Words.{cases_lt, cond-false, cond-true, cond_both, and_left, or_from, or_left, or_parts, or_right}
 use Rattle.rk_inv_base.proofs.Words.{drop-append-le, take-append-le, list_any, Range, Entry, is_marked, unmarked}
 use Rattle.rk_inv_base.proofs.Words.{unmarked_from, counting, counts, named_by, Mark, marked_entries}
-use Rattle.rk_inv_tablets.proofs.Words.{drop_all, lt-leb}
-use Rattle.std.proofs.Math.Seq.{drop-append-add, take-append-add}
+use Rattle.rk_inv_tablets.proofs.Words.{drop_all, lt-leb, drop-append-add, take-append-add}
 
 -- ---- one more mark
 

@@ -5,11 +5,11 @@ use Rattle.std.proofs.Common.{⊎_elim, ◌⊎◌, arith, ◌==◌, ◌||◌, fi
 use Rattle.rk_inv_base.proofs.Words.{cases_eq, false≢true, drop_all, Contains-get_or, meets, Held, Member, order_without, Handover}
 use Rattle.rk_inv_base.proofs.Words.{lineage_of, row_of, Phase, Rebuilding, Row, Known, known_of, EntryEnd, Rebuild, with_others_given_up}
 use Rattle.rk_inv_base.proofs.Words.{is_member, own_member, unmarked, Master, with_tablet, material_of, side_entries, begun_from}
-use Rattle.rk_inv_base.proofs.Words.{rebuild_begun, with_begun, Tablet, World, master_at, tablet_in, with_master, member_material}
-use Rattle.rk_inv_base.proofs.Words.{IsWithinRows, stored_of, IsGathered, IsFormed, HandoverFits, View, truths, view, SoundView}
-use Rattle.rk_inv_tablets.proofs.Words.{rebuilt as handover_rebuilt, member as member_at, unread, MayBegin, same_number, covered_by, stays}
-use Rattle.rk_inv_tablets.proofs.Words.{stood, IsRebuilderIn, rows_apart, stands_found, as_begun, begins_from, begun, begun_tablets}
-use Rattle.rk_inv_tablets.proofs.Words.{items_left, rebuild_begun_in, tablet_seen, row_in}
+use Rattle.rk_inv_base.proofs.Words.{rebuild_begun, Tablet, World, master_at, tablet_in, with_master, member_material, IsWithinRows}
+use Rattle.rk_inv_base.proofs.Words.{stored_of, IsGathered, IsFormed, HandoverFits, View, truths, view, SoundView}
+use Rattle.rk_inv_tablets.proofs.Words.{member as member_at, unread, MayBegin, same_number, covered_by, stays, stood, IsRebuilderIn}
+use Rattle.rk_inv_tablets.proofs.Words.{rows_apart, stands_found, as_begun, begins_from, begun, begun_tablets, items_left, rebuild_begun_in}
+use Rattle.rk_inv_tablets.proofs.Words.{tablet_seen, row_in}
 use Rattle.rk_sound.specs.Rebuilds.{AreGathered}
 use Rattle.rk_inv_tablets.proofs.ready.Heirs.{MayBeginBy, begins_by, post_is}
 use Rattle.rk_inv_tablets.proofs.ready.OthersGivenUp.{MayTakeOrder, apart, beside_order, step}
@@ -230,12 +230,6 @@ module _ (w : World) (master : ℕ) (rebuild : Rebuild) where
   -- the master that begins, where this is its number
   abbrev begins_by_number : ℕ → Master
   begins_by_number number = with_tablet (left_alone (own_member rebuild.lineage number)) asked (begins_as number)
-
-  -- the master that takes the order, where it has this of the tablet
-  abbrev taking : Option Member → Tablet → Master
-  taking member tablet =
-      with_begun (left_alone member) rebuild
-      (handover_rebuilt tablet.handover rebuild.tenure.term rebuild.range (begins_from (view w) master member))
 
   moves : was.handover.term < rebuild.tenure.term → rebuild_begun (master_at w master) rebuild ≡ begins_by_number (master_at w master).number
   moves greater =

@@ -147,9 +147,6 @@ module _ (v : View) (row : Row) (master : ℕ) (sound : SoundView v) (has : Cont
         (row_in v sound row has).target
         (ap (λ (n : ℕ). is_granted (v.handovers n row.tablet).role) here ∙ granted))
 
-    abbrev truth : List Entry
-    truth = member_truth v.written range first
-
     -- what it copied
     abbrev copied : List Held
     copied = copied_items old.role pulling w.sides
@@ -228,7 +225,7 @@ module _ (v : View) (row : Row) (master : ℕ) (sound : SoundView v) (has : Cont
           (counting range (flat_map (side_entries w.sides) (named range list))) found.0 found.1) found.2))
           (λ (copy : Contains copied item).
           inr (member_in first (last ∷ []) first shape (0, omega arith, refl) item
-          (scanned truth item (target.received.within item copy))))
+          (scanned (member_truth v.written range first) item (target.received.within item copy))))
           (target.received.come item stands inside);
       sides = λ item at.
           let mine = named_of v row master sound has lives below last.from item at in

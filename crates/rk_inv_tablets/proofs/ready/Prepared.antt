@@ -149,11 +149,8 @@ module _ (w : World) (master : ℕ) (prepare : Prepare) where
   abbrev was : Tablet
   was = tablet_in w master asked
 
-  abbrev waits : Handover
-  waits = as_wanting prepare.tenure.term prepare.range (length (log_in w master).entries) was.handover
-
   abbrev ready : Tablet
-  ready = without_merged (with_handover was waits)
+  ready = without_merged (with_handover was (as_wanting prepare.tenure.term prepare.range (length (log_in w master).entries) was.handover))
 
   -- the master once its items of the range and its other tablets there are gone
   abbrev left_alone : Master

@@ -8,7 +8,7 @@ use Rattle.rk_inv_base.proofs.Words.{RoleFits, AreApart, HasItems, has_all_items
 use Rattle.rk_inv_base.proofs.Words.{StillCounts, speaks, ReachAll, ends_of, is_idle, HandoverFits, is_absent, row_of, may_have_staged}
 use Rattle.rk_inv_base.proofs.Words.{IsInScanOrder, IsSettledIn, Call, Message, has_merged, member_material}
 use Rattle.rk_inv_tablets.proofs.Words.{scan_in, truth_in, put_here, IsRebuilderIn, IsBareOf, IsTargetIn, outside_post, heir_post, row_in}
-use Rattle.rk_inv_tablets.proofs.Words.{IsNextOf, SoundRow, SoundBeside, waits_for, view_by_rows, formed_apart, all_by}
+use Rattle.rk_inv_tablets.proofs.Words.{IsNextOf, SoundRow, SoundBeside, waits_for, view_by_rows, formed_apart, all_by, IsRebuiltIn}
 use Rattle.rk_inv_base.proofs.roles.ItemsDropped.{has_all_member}
 use Rattle.rk_inv_tablets.proofs.ready.OwnItems.{none_remains}
 use Rattle.rk_inv_tablets.proofs.ready.Outside.{begun_lacks, first_member, rebuilder_is, second_member, former_behind}
@@ -17,7 +17,6 @@ use Rattle.rk_inv_tablets.proofs.ready.Yielding.{member_keeps, of_lineage, cover
 use Rattle.rk_inv_tablets.proofs.ready.Yielding.{for_grant_on, by_message_on, settled, end_known, stages}
 use Rattle.rk_inv_tablets.proofs.ready.YieldedMessages.{says_on}
 use Rattle.rk_inv_base.proofs.logs.InRange.{HaveSame, table_same, target_same, rebuilder_same}
-use Rattle.rk_inv_base.proofs.views.ByRows.{IsRebuiltIn}
 
 module _ (v : View) (a : Yielding v) where
   abbrev now : View

@@ -8,10 +8,9 @@ use Rattle.rk_inv_base.proofs.Words.{is_wanting, KeepTerm, RoleFits, HandoverFit
 use Rattle.rk_inv_base.proofs.Words.{is_serving, Role, Body, Handed, second_of, touches, is_idle, may_have_staged, IsKnown, IsStagedEnd}
 use Rattle.rk_inv_base.proofs.Words.{handed_by, handed_for_grant, is_waiting, second_has, post_of, rebuilder_post, speaks, rests}
 use Rattle.rk_inv_tablets.proofs.Words.{put_by, put_here, put_other, IsRebuilderIn, IsBareOf, tablets_taken, outside_post, heir_post}
-use Rattle.rk_inv_tablets.proofs.Words.{row_in}
+use Rattle.rk_inv_tablets.proofs.Words.{row_in, staged_as}
 use Rattle.rk_inv_tablets.proofs.ready.OwnItems.{all_remain}
 use Rattle.rk_inv_tablets.proofs.ready.Outside.{is_quiet, begun_silent, outside_idle, rebuilder_is, second_member}
-use Rattle.rk_inv_base.proofs.views.ByRows.{staged_as}
 use Rattle.rk_transfer.specs.declared.role.Role.TheVariants as roles
 
 -- ---- what it is

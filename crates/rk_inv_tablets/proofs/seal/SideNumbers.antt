@@ -1,11 +1,12 @@
 -- No Joined names a side segment that is not there, so with more side segments what counts is the same.
-use Rattle.std.proofs.Common.{◌≡◌, ℕ, suc, ◌+◌, ◌<◌, true, List, [], ◌∷◌, ◌++◌, length, refl, ap, ◌∙◌, arith, drop, nat_lt, All, flat_map}
+use Rattle.std.proofs.Common.{◌≡◌, ℕ, ◌+◌, ◌<◌, true, List, [], ◌∷◌, ◌++◌, length, refl, ap, ◌∙◌, arith, drop, nat_lt, All, flat_map}
 use Rattle.std.proofs.Common.{lt-ltb}
-use Rattle.rk_inv_base.proofs.Words.{cases_lt, cond-true, cond_both, false≢true, get_or_append_left, length-map, All-cons, All-drop}
-use Rattle.rk_inv_base.proofs.Words.{All-head, All-nil, All-push, All-tail, All-take, All-weaker, Held, Range}
-use Rattle.rk_inv_base.proofs.Words.{spelled_all, Entry, FIRST_SIDE_SEGMENT, is_in, is_whole, Log, is_side_stored, items_of}
-use Rattle.rk_inv_base.proofs.Words.{is_marked, unmarked, unmarked_from, as_entries, counting, log_material, named, named_by, side_entries}
-use Rattle.rk_inv_base.proofs.Words.{with_number, Written, applied_entries, Mark, IsLog, segments_in, applied_from, named_items}
+use Rattle.rk_inv_base.proofs.Words.{cases_lt, cond-true, cond_both, false≢true, get_or_append_left, length-map, All-drop, All-head}
+use Rattle.rk_inv_base.proofs.Words.{All-nil, All-push, All-tail, All-take, All-weaker, Held, Range, spelled_all, Entry, FIRST_SIDE_SEGMENT}
+use Rattle.rk_inv_base.proofs.Words.{is_in, is_whole, Log, is_side_stored, items_of, unmarked_from, as_entries, counting, log_material}
+use Rattle.rk_inv_base.proofs.Words.{named, named_by, side_entries, with_number, Written, applied_entries, Mark, IsLog, segments_in}
+use Rattle.rk_inv_base.proofs.Words.{applied_from, named_items}
+use Rattle.rk_inv_base.proofs.views.Among.{unmarked_all}
 use Rattle.rk_inv_tablets.proofs.Words.{numbered_past, with_side_items, all_flat, fold_keeps_all}
 use Rattle.rk_entry.specs.declared.entry.Entry.TheVariants as entries
 
@@ -29,14 +30,6 @@ all_named P range list all =
     fold_keeps_all (All P) P with_number (flat_map (named_by range) list) [] (All-nil P)
     (all_flat P (named_by range) list (All-weaker _ _ (named_fit P range) list all))
     (λ numbers number these its. cond_both _ numbers _ (All P) (λ e. these) (λ e. All-push P numbers number these its))
-
--- what holds of entries holds of those without a mark
-pub unmarked_all : (P : Entry → Type 0) (marks : List Mark) (place : ℕ) (list : List Entry) → All P list → All P (unmarked marks place list)
-unmarked_all P marks place [] all = all
-unmarked_all P marks place (entry ∷ list) all =
-    let later = unmarked_all P marks (suc place) list (All-tail P entry list all) in
-    cond_both (is_marked marks place) (unmarked marks (suc place) list) (entry ∷ unmarked marks (suc place) list) (All P) (λ e. later)
-    (λ e. All-cons P entry (unmarked marks (suc place) list) (All-head P entry list all) later)
 
 -- ---- more side segments
 

@@ -11,7 +11,7 @@ use Rattle.rk_inv_base.proofs.Words.{is_member}
 use Rattle.rk_inv_tablets.proofs.Words.{AreAlike, handed_by_alike, handed_for_grant_alike, speaks_alike, still_counts, calls_alike}
 use Rattle.rk_inv_tablets.proofs.Words.{cover_looks, stands_kept, put2_by, put2_other, IsRebuilderIn, mark_same, IsBareOf, role_looks}
 use Rattle.rk_inv_tablets.proofs.Words.{terms_look, AllLook, all_items_same, terms_looks, as_joining, as_sealed, sides_joined, row_in}
-use Rattle.rk_inv_tablets.proofs.Words.{waits_for, CountsFor, SoundBeside, SoundRow, SpeaksFor, view_by_rows, looks_same}
+use Rattle.rk_inv_tablets.proofs.Words.{waits_for, CountsFor, SoundBeside, SoundRow, SpeaksFor, view_by_rows, looks_same, IsRebuiltIn}
 use Rattle.rk_types.specs.declared.hashing.TheConstants.{BUCKETS}
 use Rattle.rk_table.proofs.InOrder.{bucket_below_end}
 use Rattle.rk_table.specs.Order.{item_bucket}
@@ -21,7 +21,6 @@ use Rattle.rk_inv_base.proofs.rows.RowAppended.{StaysAs}
 use Rattle.rk_inv_base.proofs.views.OwnTablet.{rows_but_one}
 use Rattle.rk_inv_base.proofs.wire.Messages.{says_of_looks}
 use Rattle.rk_transfer.specs.declared.role.Role.TheVariants as roles
-use Rattle.rk_inv_base.proofs.views.ByRows.{IsRebuiltIn}
 
 -- ---- roles
 
@@ -90,9 +89,6 @@ module _ (v : View) (row : Row) (master : ℕ) (numbers : List ℕ) (sound : Sou
   abbrev number : ℕ
   number = row.tablet
 
-  abbrev old : Handover
-  old = v.handovers master row.tablet
-
   was : SoundRow v row
   was = row_in v sound row has_row
 
@@ -135,7 +131,7 @@ module _ (v : View) (row : Row) (master : ℕ) (numbers : List ℕ) (sound : Sou
   -- ---- rebuilds
 
   -- the target has not begun to rebuild its row
-  behind : (lineage : List Member) → row.phase ≡ Rebuilding lineage master → old.term < row.term
+  behind : (lineage : List Member) → row.phase ≡ Rebuilding lineage master → (v.handovers master row.tablet).term < row.term
   behind lineage is = grind (arith, receiving_behind, bond_of, post_of, was)
 
   abbrev IsBy : List Member → ℕ → Handover → Type 0

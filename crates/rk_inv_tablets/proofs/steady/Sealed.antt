@@ -4,8 +4,8 @@ use Rattle.std.proofs.Common.{subst, arith, length-append, unwrap_or}
 use Rattle.rk_inv_base.proofs.Words.{All-map, All-nil, All-weaker, IsInOrder, NumberMap, get, Held, spelled_all, Entry, FIRST_SIDE_SEGMENT}
 use Rattle.rk_inv_base.proofs.Words.{Master, tablet_at, with_all, with_appended, with_side_segment, with_tablet, as_entries, Tablet}
 use Rattle.rk_inv_base.proofs.Words.{no_tablet, Worked}
-use Rattle.rk_inv_tablets.proofs.Words.{kept_by_fold}
-use Rattle.rk_inv_wellformed.proofs.maps.Maps.{All_insert, All_pairs, each_from_pairs}
+use Rattle.rk_inv_tablets.proofs.Words.{kept_by_fold, All_insert, each_from_pairs}
+use Rattle.rk_inv_wellformed.proofs.maps.Maps.{All_pairs}
 
 -- what a tablet has sealed is among so many side segments
 abbrev pub IsSealedUnder : ℕ → Tablet → Type 0

@@ -1,10 +1,10 @@
 -- What each event and each client keeps of a lane's masters and backups, where each of the parts keeps it.
-use Rattle.std.proofs.Common.{arith, ◌+◌, ℕ, true, false, cond, Option, None, Some}
-use Rattle.rk_inv_base.proofs.Words.{NumberMap, insert, Call, Node, Range, Segments, row_of, Phase, Row, Message, Backed, Called, accept}
-use Rattle.rk_inv_base.proofs.Words.{accept_by, ask, ask_by, asking, asking_by, fits_with, is_asked_here, taking, untouched, Session}
-use Rattle.rk_inv_base.proofs.Words.{session_turn, is_added, with_client, Master, master_step, master_turn, accept_refusal, ask_refusal}
-use Rattle.rk_inv_base.proofs.Words.{world_visited, owner_split, row_split, with_split, backed_at, happened, losing, sent_again, turned}
-use Rattle.rk_inv_base.proofs.Words.{with_added, with_sends, World, has_crashed, master_at, with_ledger, with_master, with_stored_by, Event}
+use Rattle.std.proofs.Common.{arith, ◌+◌, ℕ, Option, None, Some}
+use Rattle.rk_inv_base.proofs.Words.{NumberMap, insert, Call, Node, Range, Segments, row_of, Phase, Row, Message, Called, accept, accept_by}
+use Rattle.rk_inv_base.proofs.Words.{ask, ask_by, asking, asking_by, fits_with, is_asked_here, taking, untouched, Session, session_turn}
+use Rattle.rk_inv_base.proofs.Words.{is_added, with_client, Master, master_step, master_turn, accept_refusal, ask_refusal, world_visited}
+use Rattle.rk_inv_base.proofs.Words.{owner_split, row_split, with_split, happened, sent_again, turned, with_added, World, has_crashed}
+use Rattle.rk_inv_base.proofs.Words.{master_at, with_ledger, with_master, Event}
 use Rattle.rk_types.specs.declared.node.Node.TheVariants as nodes
 
 -- something of a lane's masters and of how many backups there are and what they store
@@ -27,14 +27,6 @@ pub record IsKept (P : Part) (w : World) : Type 0 where
 -- ---- events
 
 module _ (P : Part) (w : World) (kept : IsKept P w) where
-  backed_keeps : (v : World) (answer : Backed) → Has P v → Has P (backed_at v answer).world
-  backed_keeps v answer has =
-      elim (answer.lost) as (λ b. Has P (cond b (losing v) (with_sends v answer.sends)).world) [ true ↦ has | false ↦ has ]
-
-  stored_keeps : (backup : ℕ) (store : Segments → Segments) (found : Option Segments) → Has P (with_stored_by w backup store found)
-  stored_keeps backup store None = kept.now
-  stored_keeps backup store (Some segments) = kept.stores backup (store segments)
-
   turned_keeps : (node : Node) → Has P (turned w node).world
   turned_keeps (nodes.Master master) = kept.turns master
   turned_keeps _ = kept.now

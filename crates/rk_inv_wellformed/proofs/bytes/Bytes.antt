@@ -5,8 +5,7 @@ use Rattle.std.proofs.Common.{position, nat_lt, not}
 use Rattle.rk_inv_wellformed.proofs.Words.{byte_len, get_or_past, cases_lt, cond-true, cond_both, nat_tests, All-append, All-cons, All-head}
 use Rattle.rk_inv_wellformed.proofs.Words.{All-nil, All-tail, value_fault, Ended, Range, LONGEST_KEY, LONGEST_VALUE, kind_of, IsLawfulEntry}
 use Rattle.rk_inv_wellformed.proofs.Words.{Entry, key_fault, End, is_marked, lt-ltb, not-true, Width, byte_at, bytes_high_first}
-use Rattle.rk_inv_wellformed.proofs.Words.{position_or_len, bad_byte, text_fault, fields_bytes, item_value_bytes}
-use Rattle.rk_log.proofs.CutLaws.{spelled_none}
+use Rattle.rk_inv_wellformed.proofs.Words.{position_or_len, bad_byte, text_fault, fields_bytes, item_value_bytes, spelled_none}
 use Rattle.rk_entry.proofs.EntryLaws.{entry_takes, one_spelled}
 use Rattle.rk_entry.proofs.StandLaws.{entries_of-cons, entries_of-none}
 use Rattle.rk_entry.proofs.Tools.{IsBytes}

@@ -1,12 +1,11 @@
 -- How many bytes a master's segments and side logs have after a step: where nothing is appended no more than before, and an entry more
 -- where one is.
 use Rattle.std.proofs.Common.{◌≡◌, ◌≤◌, ◌+◌, ◌==◌, ◌&&◌, ℕ, cond, not, List, [], ◌∷◌, length, map, sum, refl, sym, subst, arith, Bool}
-use Rattle.rk_inv_wellformed.proofs.Words.{sum-map, sum_by-append, sum_by-cons, IsInOrder, meets, Held, Range, spelled_all, spelled}
-use Rattle.rk_inv_wellformed.proofs.Words.{Entry, given_up, with_others_given_up, Master, log_bytes, tablet_at, unsealed_bytes}
-use Rattle.rk_inv_wellformed.proofs.Words.{with_appended, with_tablet, as_entries, Pulling, Tablet, no_tablet, pulling_from, changed_each}
+use Rattle.rk_inv_wellformed.proofs.Words.{sum-map, sum_by-append, sum_by-cons, IsInOrder, meets, Held, Range, spelled_all, spelled, Entry}
+use Rattle.rk_inv_wellformed.proofs.Words.{given_up, with_others_given_up, Master, log_bytes, tablet_at, unsealed_bytes, with_appended}
+use Rattle.rk_inv_wellformed.proofs.Words.{with_tablet, as_entries, Pulling, Tablet, no_tablet, pulling_from, changed_each, spelled_none}
 use Rattle.rk_inv_wellformed.proofs.bytes.Sizes.{bytes_spelled}
 use Rattle.rk_inv_wellformed.proofs.maps.{either_way, inserted_most, sum_changed, sum_put, within_or}
-use Rattle.rk_log.proofs.CutLaws.{spelled_none}
 
 -- ---- a tablet
 

@@ -29,7 +29,7 @@ pub first_bytes : (item : Held) (items : List Held) → items_bytes (item ∷ it
 first_bytes item items =
     omega (arith, items_spelled, sum-map {X = Held}, sum_by-cons {X = Held})
 
-last_bytes : (items : List Held) (item : Held) → items_bytes (items ++ item ∷ []) ≡ items_bytes items + spelled_of item
+pub last_bytes : (items : List Held) (item : Held) → items_bytes (items ++ item ∷ []) ≡ items_bytes items + spelled_of item
 last_bytes items item = omega (arith, items_spelled (items ++ item ∷ []), items_spelled items, sum_pushed items item)
 
 -- an entry before others has its bytes beside theirs

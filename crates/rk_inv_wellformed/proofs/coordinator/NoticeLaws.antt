@@ -175,15 +175,13 @@ module _ (limits : Limits) (w : World) (living : ℕ) (there : IsMaster limits.m
   notices_are_formed (dead ∷ rest) {coordinator} same all noticed formed =
       let first = notice_one_is_formed same (All-head (IsGone limits w) dead rest all) noticed formed in
       let later = notices_are_formed rest same (All-tail (IsGone limits w) dead rest all) first.noticed first.formed in
-      record {
-        formed = later.formed;
-        masters = later.masters;
-        noticed = later.noticed;
-        covers = λ table hash covered. later.covers table hash (first.covers table hash covered);
-        terms = λ most below.
+      assumption (
+        later,
+        λ (table hash : ℕ) (covered : is_covered coordinator.rows table hash ≡ true). later.covers table hash (first.covers table hash covered),
+        λ (most : ℕ) (below : AreTermsUpTo most coordinator.rows).
             terms_below (most + 1 + length rest) (most + length (dead ∷ rest)) (fold notice_one (notice_one coordinator dead) rest).rows
-            (omega arith) (later.terms (most + 1) (first.terms most below));
-      }
+            (omega arith) (later.terms (most + 1) (first.terms most below)),
+      )
 
 -- ---- the order of notices
 
@@ -229,12 +227,9 @@ crashed_are_few w are =
 -- so the coordinator of a well formed lane stays well formed
 pub formed_noticed : (limits : Limits) (w : World) (dead : ℕ) → has_crashed w dead ≡ true → w.coordinator.masters ≡ limits.masters → IsFormedCoordinator limits w.coordinator → IsWellFormed w
     → IsNoticed limits w w.coordinator.masters w.coordinator (coordinator_notice w.coordinator dead (crashed_masters w))
-formed_noticed limits w dead crashed are coordinator formed = record {
-  formed = done.formed;
-  masters = done.masters;
-  noticed = done.noticed;
-  covers = done.covers;
-  terms = λ most below.
+formed_noticed limits w dead crashed are coordinator formed = assumption (
+  done,
+  λ (most : ℕ) (below : AreTermsUpTo most w.coordinator.rows).
       terms_below (most + length order) (most + w.coordinator.masters) (fold notice_one w.coordinator order).rows
       (omega (
         arith,
@@ -242,8 +237,8 @@ formed_noticed limits w dead crashed are coordinator formed = record {
         filter_few (λ master. not (is_noticed w.coordinator master)) (crashed_masters w),
         crashed_are_few w formed.masters_are,
       ))
-      (done.terms most below);
-}
+      (done.terms most below),
+)
   where
     some : SomeLives w
     some = formed.left dead crashed

@@ -6,10 +6,8 @@ use Rattle.rk_inv_wellformed.proofs.Words.{Node, entries_of, IsLawfulEntry, spel
 use Rattle.rk_inv_wellformed.proofs.Words.{backup_step, IsFormedMaster, IsFormedBody, IsFormedEntry, IsFormedHeld, IsFormedMessage, IsThere}
 use Rattle.rk_inv_wellformed.proofs.Words.{Limits, Master, as_entries, IsMaster, MayCome, cut_after, has_room, in_last, last_of, with_bytes}
 use Rattle.rk_inv_wellformed.proofs.Words.{numbered, ReadSegment, Append, append_step, read_step, option_map_or, segment_of, common_front}
-use Rattle.rk_inv_wellformed.proofs.Words.{copied}
+use Rattle.rk_inv_wellformed.proofs.Words.{copied, spelled_all, spelled_none, spelled_push}
 use Rattle.rk_outside.specs.Segments.{bytes_of as read_bytes}
-use Rattle.rk_entry.specs.Entries.{spelled_all}
-use Rattle.rk_log.proofs.CutLaws.{spelled_none, spelled_push}
 use Rattle.rk_log.specs.Log.{bytes_of}
 use Rattle.rk_inv_wellformed.proofs.bytes.Bytes.{entries_nil, read_front}
 use Rattle.rk_inv_wellformed.proofs.maps.{all_at, all_find, all_given, by_found}

@@ -1,10 +1,10 @@
 -- What keeps to limits keeps to wider ones: a greater greatest number, and more clients.
 use Rattle.std.proofs.Common.{◌≡◌, ◌≤◌, ◌+◌, ℕ, List, All, refl, subst, arith, length, flat_map}
-use Rattle.rk_inv_wellformed.proofs.Words.{All-weaker, each_weaker, Call, Ended, Held, Node, Entry, ends_of, Row, Traffic, Tenure, Body}
-use Rattle.rk_inv_wellformed.proofs.Words.{Message, Coordinator, IsFormedCall, IsFormedCoordinator, IsFormedLedger, IsFormedMaster}
-use Rattle.rk_inv_wellformed.proofs.Words.{IsFormedRow, IsFormedTablet, IsFormedWire, named_in, Ledger, IsClient, IsFormedBody, IsFormedEnd}
-use Rattle.rk_inv_wellformed.proofs.Words.{IsFormedEntry, IsFormedHeld, IsFormedMessage, IsFormedNumber, IsFormedTenure, IsThere, Limits}
-use Rattle.rk_inv_wellformed.proofs.Words.{Master, IsMaster, Tablet, Base, Handed, IsFormedHanded, is_receiving}
+use Rattle.rk_inv_wellformed.proofs.Words.{All-weaker, each_weaker, Call, Ended, Held, Node, Entry, ends_of, Row, Traffic, Body, Message}
+use Rattle.rk_inv_wellformed.proofs.Words.{Coordinator, IsFormedCall, IsFormedCoordinator, IsFormedLedger, IsFormedMaster, IsFormedRow}
+use Rattle.rk_inv_wellformed.proofs.Words.{IsFormedTablet, IsFormedWire, named_in, Ledger, IsClient, IsFormedBody, IsFormedEnd}
+use Rattle.rk_inv_wellformed.proofs.Words.{IsFormedEntry, IsFormedHeld, IsFormedMessage, IsFormedNumber, IsThere, Limits, Master, IsMaster}
+use Rattle.rk_inv_wellformed.proofs.Words.{Tablet, Base, Handed, IsFormedHanded, is_receiving}
 
 -- limits are as wide as others: the masters and backups are the same, the greatest number is no smaller, and no client is missing
 pub record IsMore (a b : Limits) : Type 0 where
@@ -54,9 +54,6 @@ module _ (a b : Limits) (more : IsMore a b) where
   more_entries list all = grind (arith, more_held, below_top, more_all_ends)
 
   -- ---- messages
-
-  pub more_tenure : {tenure : Tenure} → IsFormedTenure a tenure → IsFormedTenure b tenure
-  more_tenure formed = assumption (more_number formed.term)
 
   pub more_body : (from : Node) (body : Body) → IsFormedBody a from body → IsFormedBody b from body
   more_body from body formed =

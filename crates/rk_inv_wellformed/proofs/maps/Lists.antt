@@ -1,13 +1,13 @@
 -- Lists: what holds of each element of a list stays so where the list is joined, parted, changed, found in or folded over.
-use Rattle.std.proofs.Common.{◌≡◌, ℕ, zero, suc, Bool, true, false, cond, List, [], ◌∷◌, ◌++◌, map, fold, All, Option, None, Some, IfSome}
+use Rattle.std.proofs.Common.{◌≡◌, ℕ, zero, suc, Bool, true, false, cond, List, [], ◌∷◌, ◌++◌, fold, All, Option, None, Some, IfSome}
 use Rattle.std.proofs.Common.{flat_map, refl, subst, find, slice_get, slice_index_or, arith, filter, length, length-append, ◌≤◌, ◌<◌, ◌+◌}
 use Rattle.std.proofs.Common.{sym, ◌∙◌, not}
-use Rattle.rk_inv_wellformed.proofs.Words.{All-append, All-cons, All-head, All-nil, All-tail, range_with_len}
+use Rattle.rk_inv_wellformed.proofs.Words.{All-append, All-cons, All-head, All-nil, All-tail, range_with_len, position_or_len}
+pub use Rattle.rk_model.proofs.Places.{All-unmap as all_before}
 use Rattle.std.proofs.lemmas.Option.{get_or_from_slice_get, slice_get_within}
 use Rattle.std.proofs.lemmas.List.Filters.{length-filter_both}
 use Rattle.std.proofs.lemmas.List.Folds.{find_at}
 use Rattle.std.proofs.lemmas.List.FromFn.{get_or-range_with_len, length-range_with_len}
-use Rattle.std.specs.List.{position_or_len}
 
 -- ---- one of two
 
@@ -45,13 +45,6 @@ pub all_given : {X Y : Type 0} (P : Y → Type 0) (give : X → List Y) (list : 
 all_given P give [] all = All-nil _
 all_given P give (first ∷ rest) all = All-cons (λ x. All P (give x)) first rest
     (all_front P (give first) (flat_map give rest) all) (all_given P give rest (all_back P (give first) (flat_map give rest) all))
-
--- what holds of all that a list was changed into
-pub all_before : {X Y : Type 0} (P : Y → Type 0) (change : X → Y) (list : List X) → All P (map change list) → All (λ x. P (change x)) list
-all_before P change [] all = All-nil _
-all_before P change (first ∷ rest) all =
-    All-cons (λ x. P (change x)) first rest (All-head P (change first) (map change rest) all)
-    (all_before P change rest (All-tail P (change first) (map change rest) all))
 
 -- what holds of all elements holds of the one at a place
 pub all_got : {X : Type 0} (P : X → Type 0) (list : List X) (place : ℕ) (x : X) → slice_get list place ≡ Some x → All P list → P x

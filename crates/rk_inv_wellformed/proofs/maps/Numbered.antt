@@ -72,7 +72,7 @@ pub numbered_order : {X : Type 0} (things : NumberMap X) (count : ℕ) → numbe
 numbered_order things count are = range_order 1 count things are
 
 -- a map in order has the same numbers when something else stands under one of them
-numbers_stay : {X : Type 0} (things : NumberMap X) (n : ℕ) (thing : X) → IsInOrder things → is_some (get things n) ≡ true
+pub numbers_stay : {X : Type 0} (things : NumberMap X) (n : ℕ) (thing : X) → IsInOrder things → is_some (get things n) ≡ true
     → numbers (insert things n thing) ≡ numbers things
 numbers_stay [] n thing order there = absurd (cc there)
 numbers_stay {X} (here ∷ things) n thing order there =

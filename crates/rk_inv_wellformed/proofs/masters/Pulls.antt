@@ -105,10 +105,6 @@ module _ (limits : Limits) (number : ℕ) (master : Master) (sender : Node) (wan
   abbrev found : ℕ → List Held
   found hash = at_hash hash (pulling.scan_of master (tablet_at master want.tenure.tablet))
 
-  -- the items that are answered
-  abbrev given : Message
-  given = from_master master sender (Body.Got (record { tenure = want.tenure; hashes = want.hashes; entries = as_entries (flat_map found want.hashes) }))
-
   each_found : IsFormedMaster limits number master → All (IsFormedHeld limits) (flat_map found want.hashes)
   each_found formed = all_flat (IsFormedHeld limits) found want.hashes
       (all_each (λ hash. All (IsFormedHeld limits) (found hash)) want.hashes

@@ -11,13 +11,12 @@ use Rattle.rk_inv_wellformed.proofs.Words.{as_entries, replay, token_passed, wit
 use Rattle.rk_inv_wellformed.proofs.Words.{closing_entry, Hashes, got, is_batch, no_hashes, end, AreSideSegments, batch_taken, got_taken}
 use Rattle.rk_inv_wellformed.proofs.Words.{hashes_resolved, is_token, joining_at, joining_by, next_sides, pulled_all, pulled_taken, sealing}
 use Rattle.rk_inv_wellformed.proofs.Words.{is_receiving_at, cut_items, with_side_item, Entry, All-set, Token, found, is_newer, with_tablet}
-use Rattle.rk_inv_wellformed.proofs.Words.{item_replayed, replay_one, with_pulled, spelled_all, length-le-bytes}
+use Rattle.rk_inv_wellformed.proofs.Words.{item_replayed, replay_one, with_pulled, spelled_all, length-le-bytes, spelled_none}
 use Rattle.std.proofs.lemmas.List.FromFn.{get_or-range_with_len}
 use Rattle.std.proofs.lemmas.Map.Keys.{IsDistinct-from_apart}
 use Rattle.std.specs.List.{IsDistinct}
 use Rattle.rk_types.specs.Held.{spelled_of}
 use Rattle.rk_inv_wellformed.proofs.bytes.Bytes.{spelled_cons}
-use Rattle.rk_log.proofs.CutLaws.{spelled_none}
 use Rattle.rk_inv_wellformed.proofs.bytes.EntryBytes.{held_fits, FitsSegment}
 use Rattle.rk_inv_wellformed.proofs.maps.{range_within, all_given, by_found, either_way, all_at, all_flat, fold_keeps, fold_keeps_all}
 use Rattle.rk_inv_wellformed.proofs.masters.Changes.{formed_with_side_segment, formed_with_tablet, formed_with_waiting, formed_with_item}
@@ -97,7 +96,7 @@ sum_pushed [] item = omega (arith, sum-map spelled_of (item ∷ []), sum_by-cons
 sum_pushed (first ∷ items) item =
     omega (arith, sum_pushed items item, sum-map {X = Held}, sum_by-cons {X = Held})
 
-item_some : (item : Held) → 1 ≤ spelled_of item
+pub item_some : (item : Held) → 1 ≤ spelled_of item
 unfolding spelled_of
 item_some item = omega arith
 

@@ -1,7 +1,7 @@
 -- A floor depends only on which entries there are: it is as great for more of them, whatever their order.
-use Rattle.std.proofs.Common.{◌≡◌, ℕ, suc, ◌≤◌, List, [], ◌∷◌, refl, ⊎_elim, arith, fold, Contains}
-use Rattle.rk_inv_base.proofs.Words.{Entry, floor_by, floor_of}
-use Rattle.rk_inv_rows.proofs.Words.{contains_cases, floor_rises}
+use Rattle.rk_inv_base.proofs.Words.{◌≡◌, ℕ, suc, ◌≤◌, List, [], ◌∷◌, refl, ⊎_elim, arith, fold, Contains, Entry, floor_by, floor_of}
+use Rattle.rk_inv_base.proofs.Words.{stands_cases}
+use Rattle.rk_inv_base.proofs.logs.Floors.{floor_rises}
 use Rattle.rk_entry.specs.declared.entry.Entry.TheVariants as entries
 
 -- a floor is raised to no more than what the entry alone raises one to
@@ -30,7 +30,7 @@ one_within floor (first ∷ list) entry least stands =
     let rises = floor_rises (floor_by floor entry) list in
     rw is (omega (arith, one, rises)))
     (λ (behind : Contains list entry). one_within (floor_by floor first) list entry (step_keeps floor first least) behind)
-    (contains_cases first list entry stands)
+    (stands_cases first list entry stands)
 
 -- a bound of each entry is one of the floor
 pub floor_within : (bound : ℕ) (list : List Entry) → 1 ≤ bound → ((entry : Entry) → Contains list entry → floor_by 1 entry ≤ bound) → floor_of list ≤ bound
