@@ -1,4 +1,3 @@
 pub mod Logs
-pub mod Commits
 pub mod Lanes
 pub mod Sends

@@ -1,6 +1,5 @@
 pub mod Tests
 pub mod Orders
-pub mod Reports
 pub mod Lanes
 pub mod Refusals
 pub mod Answered

@@ -1,9 +1,7 @@
 pub mod Sums
 pub mod Replays
 pub mod Pulled
-pub mod CopiesWritten
 pub mod Copied
 pub mod SealedFew
-pub mod Fitting
 pub mod FittingLanes
 pub mod Events

@@ -1,5 +1,4 @@
 pub mod Going
-pub mod Fitting
 pub mod Asking
 pub mod Lanes
 pub mod Adding

@@ -11,10 +11,9 @@ use Rattle.rk_inv_base.proofs.Words.{Entry, EntryEnd, FIRST_SIDE_SEGMENT, IsBack
 use Rattle.rk_inv_base.proofs.Words.{cases_eq, cases_lt, committed, cond-true, cond_both, cut, cut_push, end_of, ends, ends_after}
 use Rattle.rk_inv_base.proofs.Words.{get_or_append_left, get_or_past, get_or_push, has_room, in_last, is_held, is_whole, known_length}
 use Rattle.rk_inv_base.proofs.Words.{known_of, length-ends, list_all, nothing, numbered, pending, prefix_len, prefix_len-le-length}
-use Rattle.rk_inv_base.proofs.Words.{room_some, side_segments, spelled, told_other, with_bytes, with_entry}
+use Rattle.rk_inv_base.proofs.Words.{room_some, side_segments, spelled, told_other, with_bytes, with_entry, committed_told}
 use Rattle.rk_log.proofs.Cuts.{ends_push, ends_within, some_segments, spelled_some}
 use Rattle.rk_log.proofs.KnownLaws.{told_length}
-use Rattle.rk_log.proofs.LogLaws.{committed_told}
 use Rattle.rk_log.proofs.Prefixes.{prefix_len_push_no}
 use Rattle.rk_log.specs.Cut.{cut_after, last_of}
 use Rattle.rk_log.specs.Known.{reaches, told}
@@ -104,9 +103,6 @@ applied_side {log} bytes before = record {
 -- ---- what backups tell
 
 module _ (log : Log) (teller segment size : ℕ) where
-  abbrev new : Log
-  new = with_told log teller segment size
-
   told_there : size ≤ length (bytes_of log segment) → IsKnownThere log → (other : ℕ) → other < FIRST_SIDE_SEGMENT
       → known_length (told (known_of log teller) segment size) other ≤ length (bytes_of log other)
   told_there fits known other main = grind (arith, told_length, known_of, bytes_of, told_other, cases_eq)
@@ -138,13 +134,13 @@ applied_told {log} teller segment size {count} fits before = record {
 -- ---- tests of lists
 
 -- an element that fails a test
-record FailsAt {X : Type 0} (test : X → Bool) (list : List X) (none : X) : Type 0 where
-  place : ℕ
-  within : place < length list
-  fails : test (get_or list place none) ≡ false
+pub record FailsAt {X : Type 0} (test : X → Bool) (list : List X) (none : X) : Type 0 where
+  pub place : ℕ
+  pub within : place < length list
+  pub fails : test (get_or list place none) ≡ false
 
 -- where not all pass, one fails
-fails_at : {X : Type 0} (test : X → Bool) (list : List X) (none : X) → list_all test list ≡ false → FailsAt test list none
+pub fails_at : {X : Type 0} (test : X → Bool) (list : List X) (none : X) → list_all test list ≡ false → FailsAt test list none
 fails_at test [] none fails = absurd (cc fails)
 fails_at test (x ∷ list) none fails = by (test x) refl fails (fails_at test list none)
   where

@@ -1,14 +1,12 @@
 -- What an event may make of a lane, case by case: what is so after each of these is so after the event.
-use Rattle.std.proofs.Common.{arith, Some, [], false, inl, refl, true, ℕ, ◌∷◌, ◌≡◌, ◌⊎◌}
-use Rattle.rk_inv_base.proofs.Words.{Body, Called, Event, Message, Node, NumberMap, Range, Segments, World, backed_at, backup_step}
-use Rattle.rk_inv_base.proofs.Words.{client_added, cond_both, coordinator_notice, coordinator_turn, crashed_masters, get, happened}
-use Rattle.rk_inv_base.proofs.Words.{has_crashed, insert, is_added, is_backup, log_bytes_of, losing, master_at, master_step, master_turn}
-use Rattle.rk_inv_base.proofs.Words.{quietly, rows_split, seen_in, stored_after, tablet_migrated, to_backup, to_coordinator, turned}
-use Rattle.rk_inv_base.proofs.Words.{with_client, with_coordinator, with_ledger, with_master, with_sends, with_split, with_stored_by}
-use Rattle.rk_inv_base.proofs.Words.{worked_at}
+use Rattle.std.proofs.Common.{arith, Some, [], false, true, ℕ, ◌∷◌, ◌≡◌, ◌⊎◌}
+use Rattle.rk_inv_base.proofs.Words.{Body, Called, Event, Message, Node, NumberMap, Range, Segments, World, backup_step, coordinator_notice}
+use Rattle.rk_inv_base.proofs.Words.{coordinator_turn, crashed_masters, get, happened, has_crashed, insert, is_added, is_backup}
+use Rattle.rk_inv_base.proofs.Words.{log_bytes_of, master_at, master_step, master_turn, quietly, rows_split, seen_in, tablet_migrated}
+use Rattle.rk_inv_base.proofs.Words.{to_coordinator, with_client, with_coordinator, with_ledger, with_master, with_sends, with_split}
+use Rattle.rk_inv_base.proofs.Words.{worked_at, tablet_added}
 use Rattle.rk_message.specs.Wire.{without_message}
 use Rattle.rk_world.specs.World.{with_crash, with_wire}
-use Rattle.rk_inv_events.proofs.Words.{tablet_added}
 
 -- what the backups of a lane store, or what they store once one of them has stored something
 pub record StoresMore (w : World) (backups : NumberMap Segments) : Type 0 where
@@ -51,16 +49,5 @@ pub record Covers (R : World → Type 0) (w : World) (event : Event) (called : C
   pub notices : (master : ℕ) → R (quietly (with_coordinator w (coordinator_notice w.coordinator master (crashed_masters w)))).world
 
 module _ {R : World → Type 0} {w : World} {event : Event} {called : Called} (covers : Covers R w event called) where
-  to_backup_covered : (backup : ℕ) (sender : Node) (body : Body) → R (to_backup w backup sender body called).world
-  to_backup_covered backup sender body =
-      grind (arith, is_backup, stored_after, backup_step, log_bytes_of, insert, with_stored_by, losing, with_sends, backed_at, quietly)
-
-  turned_covered : (node : Node) → R (turned w node).world
-  turned_covered node = grind arith
-
-  comes_covered : (client : ℕ) → event ≡ Event.AddClient client → R (quietly (client_added w client)).world
-  comes_covered client is = cond_both (is_added w.ledger client) w (with_ledger w (with_client w.ledger client))
-      (λ now. R (quietly now).world) (λ old. covers.quiet w.backups (inl refl)) (covers.comes client is)
-
   pub event_covered : R (happened w event called).world
   event_covered = grind arith

@@ -102,11 +102,8 @@ wants (Wants number) asked key call is = record { tablet = number; is = refl }
 wants _ asked key call is = absurd (cc is)
 
 module _ (w : World) (number new master client : ℕ) (request : Request) (message : Message) (called : Called) (its : IsMade w number new master client request message called) (reply : Reply) (replies : message.body ≡ Body.Reply reply) where
-  answer_is : answer_in message.body ≡ Some reply.answer
-  answer_is = ap answer_in replies
-
   made : said (choice_of (master_at w master) (call_of client request)) request.tablet (call_of client request) ≡ Some reply.answer
-  made = sym (made_by_choice its) ∙ answer_is
+  made = sym (made_by_choice its) ∙ (ap answer_in replies)
 
   pub told_moved : (tablet : ℕ) → reply.answer ≡ Answer.Moved tablet → MayAnswerMoved (master_at w master) (call_of client request)
   told_moved tablet is = moved_justified (master_at w master) (call_of client request)

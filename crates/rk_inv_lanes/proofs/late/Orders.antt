@@ -1,12 +1,10 @@
 -- What a master makes of a message that comes late: it stays as it is, and at most says again what it said before.
-use Rattle.std.proofs.Common.{◌≡◌, ◌<◌, ℕ, false, [], refl, sym, subst, ⊎_elim, arith, ◌⊎◌, eq-eqb, ne_eqb}
+use Rattle.std.proofs.Common.{◌≡◌, ◌<◌, ℕ, false, [], refl, sym, subst, ⊎_elim, arith, ◌⊎◌, eq-eqb, ne_eqb, nat_lt, le-ltb}
 use Rattle.rk_inv_base.proofs.Words.{Node, Role, Prepare, Tenure, Body, and_left, and_right, close_taken, prepare_taken, ready, ready_again}
 use Rattle.rk_inv_base.proofs.Words.{transfer, transferring, Master, tablet_at, told_master, is_frozen, is_frozen_at, Worked, changed}
-use Rattle.rk_inv_base.proofs.Words.{sending, Range, cond-false, cond-true}
-use Rattle.rk_inv_lanes.specs.late.Late.{IsOfOtherTerm, IsOlder, IsPassedOver, IsSurpassed, kept_term, says_again}
-use Rattle.std.proofs.Common.{nat_lt}
+use Rattle.rk_inv_base.proofs.Words.{sending, cond-false, cond-true}
+use Rattle.rk_inv_lanes.specs.late.Late.{IsOfOtherTerm, IsOlder, IsPassedOver, kept_term, says_again}
 use Rattle.rk_inv_events.proofs.Words.{is_above}
-use Rattle.std.proofs.Common.{le-ltb}
 use Rattle.std.proofs.lemmas.List.Folds.{list_all_at}
 
 -- ---- what stays
@@ -42,11 +40,6 @@ module _ (master : Master) where
   -- it is of another term then
   is_other : (tenure : Tenure) → (IsOfOtherTerm master tenure ⊎ ⊥) ⊎ (tenure.term < kept_term master tenure.tablet) → IsOfOtherTerm master tenure
   is_other tenure holds = grind arith
-
-  -- or of a term that is not greater
-  is_surpassed : (tenure : Tenure) (range : Range) → (IsSurpassed master tenure range ⊎ ⊥) ⊎ (tenure.term < kept_term master tenure.tablet)
-      → IsSurpassed master tenure range
-  is_surpassed tenure range holds = grind arith
 
   frozen_late : (tenure : Tenure) → (IsOfOtherTerm master tenure ⊎ ⊥) ⊎ (tenure.term < kept_term master tenure.tablet)
       → is_frozen_at (tablet_at master tenure.tablet) tenure.term ≡ false

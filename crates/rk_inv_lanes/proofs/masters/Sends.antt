@@ -1,9 +1,8 @@
 -- What a master sends when it takes a message, other than a Request and a Stored: one message of a kind that fits at most.
-use Rattle.std.proofs.Common.{arith, ℕ, Bool, List, None, Option, Some, [], cond, false, true, ◌∷◌}
-use Rattle.rk_inv_base.proofs.Words.{Body, CopySegment, Got, Handover, Master, Message, Node, Prepare, Pull, Pulled, Reading, Tablet}
-use Rattle.rk_inv_base.proofs.Words.{Tenure, Want, Worked, as_entries, by_member, carried, changed, copy_taken, from_master, is_frozen_at}
-use Rattle.rk_inv_base.proofs.Words.{merge, order, own_material, owning, peer_message, ready, rebuilding_on, releasing, sending, tablet_at}
-use Rattle.rk_inv_base.proofs.Words.{transfer, with_all}
+use Rattle.std.proofs.Common.{arith, ℕ, Bool, List, [], cond, false, true, ◌∷◌}
+use Rattle.rk_inv_base.proofs.Words.{Body, CopySegment, Got, Master, Message, Node, Prepare, Pull, Pulled, Tablet, Tenure, Want, Worked}
+use Rattle.rk_inv_base.proofs.Words.{changed, copy_taken, from_master, is_frozen_at, order, peer_message, ready, sending, tablet_at}
+use Rattle.rk_inv_base.proofs.Words.{transfer}
 
 -- something of a message that is taken and of what is sent: it is so where nothing is sent, and where one of these messages is
 pub record IsSaid (S : Body → List Message → Type 0) : Type 0 where
@@ -21,17 +20,6 @@ module _ {S : Body → List Message → Type 0} (said : IsSaid S) where
   either_sends body false one other first second = second
 
   -- ---- the coordinator
-
-  rebuilding_sends : (body : Body) (master : Master) (number : ℕ) (reading : Option Reading) → S body (rebuilding_on master number reading).sends
-  rebuilding_sends body master number reading = grind (arith, tablet_at, merge, own_material, by_member, carried, with_all, as_entries)
-
-  owning_sends : (body : Body) (master : Master) (number : ℕ) (handover : Option Handover) → S body (owning master number handover).sends
-  owning_sends body master number None = said.silent body
-  owning_sends body master number (Some handover) = said.silent body
-
-  releasing_sends : (body : Body) (master : Master) (number : ℕ) (handover : Option Handover) → S body (releasing master number handover).sends
-  releasing_sends body master number None = said.silent body
-  releasing_sends body master number (Some handover) = said.silent body
 
   pub order_sends : (master : Master) (body : Body) → S body (order master body).sends
   order_sends master body =

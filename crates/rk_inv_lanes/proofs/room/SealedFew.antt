@@ -5,19 +5,15 @@ use Rattle.std.proofs.Common.{length-append, sum_by}
 use Rattle.rk_inv_base.proofs.Words.{cond_both, nat_tests, sum_by-append, sum_by-cons, spelled_of, Held, sealed_sides}
 use Rattle.rk_types.specs.declared.held.TheConstants.{SEGMENT_BYTES}
 use Rattle.rk_world.specs.SideLogs.{cut_items, with_side_item}
-use Rattle.rk_inv_wellformed.proofs.bytes.PullBytes.{first_bytes, items_bytes, none_bytes}
+use Rattle.rk_inv_wellformed.proofs.bytes.PullBytes.{first_bytes, items_bytes, last_bytes as added_bytes, none_bytes}
 use Rattle.rk_inv_wellformed.proofs.lanes.Ledgers.{kept_by_fold}
-use Rattle.rk_inv_wellformed.proofs.masters.Sealing.{items_spelled, sum_pushed}
+use Rattle.rk_inv_wellformed.proofs.masters.Sealing.{items_spelled}
 
 -- ---- items
 
 -- an item alone has its bytes
 alone_bytes : (item : Held) → items_bytes (item ∷ []) ≡ spelled_of item
 alone_bytes item = omega (arith, first_bytes item [], none_bytes)
-
--- an item more has its bytes beside those of the others
-more_bytes : (items : List Held) (item : Held) → items_bytes (items ++ item ∷ []) ≡ items_bytes items + spelled_of item
-more_bytes items item = omega (arith, items_spelled (items ++ item ∷ []), items_spelled items, sum_pushed items item)
 
 -- where an item does not fit a segment, it and the items there have more bytes than a segment may have
 beyond_segment : (items : List Held) (item : Held) → nat_le (sum (map spelled_of items) + spelled_of item) SEGMENT_BYTES ≡ false
@@ -59,7 +55,7 @@ added_few less most items [] item few =
     omega (
       arith,
       few,
-      more_bytes items item,
+      added_bytes items item,
       sum_by-cons items_bytes items [],
       sum_by-cons items_bytes (items ++ item ∷ []) [],
     ))

@@ -3,9 +3,9 @@
 use Rattle.std.proofs.Common.{All, Bool, Contains, Less, List, Ordering, Some, [], ap, arith, cond, false, flat_map, is_lt, length, map}
 use Rattle.std.proofs.Common.{nat_cmp, refl, subst, sum_by, sym, true, unwrap_or, ℕ, ⊎_elim, ◌++◌, ◌+◌, ◌∙◌, ◌∷◌, ◌≡◌, ◌≤◌}
 use Rattle.rk_inv_base.proofs.Words.{All-contains, All-head, All-tail, Contains-append_left, Contains-append_right, Entry, Held}
-use Rattle.rk_inv_base.proofs.Words.{IsFormedMaster, IsWellFormed, Limits, Master, NumberMap, World, as_entries}
-use Rattle.rk_inv_base.proofs.Words.{behind_stands, bytes_of_logs, cut, eq_by_cmp, first_stands, get, items_of, log_bytes, new_master}
-use Rattle.rk_inv_base.proofs.Words.{none_stands, spelled, stands_cases, sum-map, sum_by-append, sum_by-cons}
+use Rattle.rk_inv_base.proofs.Words.{IsFormedMaster, IsWellFormed, Limits, Master, NumberMap, World, as_entries, behind_stands}
+use Rattle.rk_inv_base.proofs.Words.{bytes_of_logs, cut, eq_by_cmp, first_stands, get, items_of, log_bytes, new_master, none_stands}
+use Rattle.rk_inv_base.proofs.Words.{spelled, stands_cases, sum-map, sum_by-append, sum_by-cons, spelled_of}
 use Rattle.std.proofs.lemmas.List.Concat.{length-flat_map}
 use Rattle.std.proofs.lemmas.List.Recursion.{is_sum_by}
 use Rattle.std.proofs.lemmas.List.Sums.{sum_by-le-sum_by}
@@ -18,12 +18,11 @@ use Rattle.rk_overlay.specs.Overlay.{item_cmp}
 use Rattle.rk_inv_wellformed.proofs.bytes.PullBytes.{items_few}
 use Rattle.rk_inv_wellformed.proofs.bytes.Sizes.{bytes_spelled}
 use Rattle.rk_inv_wellformed.proofs.maps.Numbered.{numbered_order}
-use Rattle.rk_inv_wellformed.proofs.masters.Sealing.{items_spelled}
+use Rattle.rk_inv_wellformed.proofs.masters.Sealing.{item_some, items_spelled}
 use Rattle.rk_inv_lanes.specs.room.Logged.{HasRecordsOf, IsLogged, logged_by}
 use Rattle.rk_inv_events.proofs.Words.{All_pairs, by_found}
 use Rattle.std.specs.List.Sorted.{IsStrictlySortedBy}
 use Rattle.rk_entry.specs.Entries.{spelled_all}
-use Rattle.rk_types.specs.Held.{spelled_of}
 
 -- ---- sums
 
@@ -153,11 +152,6 @@ apart_bytes {w} items formed order logged =
       sorted_within item_cmp spelled_of spelled_of items (all_logged w) item_total order
           (λ item stands. logged_stands (All-contains (IsLogged w) items item logged stands)) (λ item stands. omega arith),
     )
-
--- an item has a byte
-item_some : (item : Held) → 1 ≤ spelled_of item
-unfolding spelled_of
-item_some item = omega arith
 
 -- and records are no more than all logs have bytes
 pub records_few : {w : World} (master : Master) → IsWellFormed w → HasRecordsOf (IsLogged w) master → length master.records ≤ bytes_of_logs w

@@ -16,13 +16,11 @@ use Rattle.rk_log.proofs.CutLaws.{cut_again}
 use Rattle.rk_log.specs.Stored.{spelled_in, stored_entries, written_from, written_then}
 use Rattle.rk_inv_wellformed.proofs.maps.Lists.{all_back, all_front}
 use Rattle.rk_inv_base.proofs.logs.Holding.{applied_stored}
-use Rattle.rk_inv_events.proofs.Below.{read_none}
-use Rattle.rk_inv_events.proofs.Below.{cut_groups, ends_in, group_ends, spelled_first, spelled_none, spelled_one}
+use Rattle.rk_inv_events.proofs.Below.{read_none, cut_groups, ends_in, group_ends, spelled_first, spelled_none, spelled_one}
 use Rattle.rk_inv_events.proofs.Words.{All_pairs, all_by, bytes_in, bytes_main, bytes_side, each_from_pairs, flat_same, named_in}
 use Rattle.rk_inv_events.proofs.Words.{numbered_at, whole_part}
 use Rattle.rk_inv_base.proofs.logs.Segments.{numbered_before, numbered_past}
-use Rattle.rk_inv_events.proofs.Below.{all_at, all_groups}
-use Rattle.rk_inv_events.proofs.Below.{named_from}
+use Rattle.rk_inv_events.proofs.Below.{all_at, all_groups, named_from}
 use Rattle.rk_inv_events.proofs.rebuilt.AppliedOwn.{none_marked}
 use Rattle.rk_world.specs.Quiet.{IsOwnedLive, IsQuiet}
 use Rattle.rk_world.specs.Stands.{Stands, StandsIn, stored_material}

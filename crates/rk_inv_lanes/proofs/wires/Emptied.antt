@@ -35,12 +35,12 @@ taken_off_order w number message arrival order there =
 -- ---- the oldest message
 
 -- a message of a number is there
-record IsThere (messages : NumberMap Message) (number : ℕ) : Type 0 where
-  message : Message
-  found : get messages number ≡ Some message
+pub record IsThere (messages : NumberMap Message) (number : ℕ) : Type 0 where
+  pub message : Message
+  pub found : get messages number ≡ Some message
 
 -- the oldest message is there under its number
-oldest_there : (messages : NumberMap Message) (sent number : ℕ) → number_at 1 (record { messages = messages; sent = sent }) ≡ Some number → IsThere messages number
+pub oldest_there : (messages : NumberMap Message) (sent number : ℕ) → number_at 1 (record { messages = messages; sent = sent }) ≡ Some number → IsThere messages number
 oldest_there [] sent number oldest = absurd (cc oldest)
 oldest_there (here ∷ messages) sent number oldest =
     let same : here.0 ≡ number = cc oldest in

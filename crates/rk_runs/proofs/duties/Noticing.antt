@@ -1,14 +1,11 @@
 -- Once one crash is noticed, each master that has crashed was noticed, until the next one crashes.
 use Rattle.std.proofs.Common.{◌≡◌, ◌==◌, ◌≤◌, ◌<◌, ◌+◌, ℕ, zero, suc, Bool, true, false, List, [], ◌∷◌, ◌++◌, fold, refl, sym, ap, subst}
-use Rattle.std.proofs.Common.{◌∙◌, ⊎_elim, append-nil, append_assoc, arith, filter, not, eq-eqb, eqb-true}
-use Rattle.rk_inv_base.proofs.Words.{and_from, cases_eq, or_left, or_right, All-contains, Any-from_list_any, list_any-append}
-use Rattle.rk_inv_base.proofs.Words.{list_any, range_with_len, row_of, Row, Called, Coordinator, is_noticed}
-use Rattle.rk_inv_base.proofs.Words.{told_coordinator, IsWellFormed, migrating, tablet_migrated, coordinator_notice, notice_one}
-use Rattle.rk_inv_base.proofs.Words.{notice_order, IsMaster, rows_split, happened}
-use Rattle.rk_inv_base.proofs.Words.{World, crashed_masters, has_crashed, Event}
+use Rattle.std.proofs.Common.{◌∙◌, ⊎_elim, append-nil, append_assoc, arith, filter, not, eq-eqb, eqb-true, Contains}
+use Rattle.rk_inv_base.proofs.Words.{and_from, cases_eq, or_left, or_right, All-contains, Any-from_list_any, list_any-append, list_any}
+use Rattle.rk_inv_base.proofs.Words.{range_with_len, row_of, Row, Called, Coordinator, is_noticed, told_coordinator, IsWellFormed}
+use Rattle.rk_inv_base.proofs.Words.{migrating, tablet_migrated, coordinator_notice, notice_one, notice_order, IsMaster, rows_split}
+use Rattle.rk_inv_base.proofs.Words.{happened, World, crashed_masters, has_crashed, Event, list_any_at}
 use Rattle.rk_inv_base.proofs.pulls.Joining.{stands_kept}
-use Rattle.std.proofs.Common.{Contains}
-use Rattle.rk_inv_base.proofs.Words.{list_any_at}
 use Rattle.rk_types.specs.NumberMap.{numbers}
 use Rattle.rk_runs.specs.duties.Owners.{AllNoticed, is_crash}
 use Rattle.rk_runs.proofs.duties.Reports.{told_same}

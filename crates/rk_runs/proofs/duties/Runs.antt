@@ -9,8 +9,7 @@ use Rattle.std.proofs.lemmas.List.FromFn.{get_or-map-range_with_len}
 use Rattle.std.proofs.lemmas.Nat.{mod_below}
 use Rattle.rk_runs.proofs.history.Clusters.{IsGood, IsGoodLane}
 use Rattle.rk_runs.proofs.history.Histories.{good_run}
-use Rattle.rk_runs.proofs.history.Runs.{Lasts, clients_keep, events_keep, good_after}
-use Rattle.rk_runs.proofs.history.Staying.{lanes_stay}
+use Rattle.rk_runs.proofs.history.Runs.{Lasts, clients_keep, events_keep, good_after, within}
 use Rattle.rk_runs.specs.duties.Owners.{NoDeadOwner}
 use Rattle.rk_runs.specs.duties.Worn.{IsWornFor}
 use Rattle.rk_runs.proofs.duties.Asking.{client_sends, client_worn}
@@ -63,10 +62,6 @@ module _ (masters backups : ℕ) (few : masters ≤ MOST_MASTERS) (backed : 1 �
   start_long : length start.lanes ≡ LANES
   start_long = length-map-range_with_len (λ (lane : ℕ). new_world lane masters backups) 0 LANES
 
-  -- each lane is there
-  within : (list : List Occurrence) (lane : ℕ) → lane < LANES → lane < length (cluster_run start list).lanes
-  within list lane inside = omega (arith, inside, lanes_stay start list, start_long)
-
   -- what lanes keep each lane has
   pub lanes_in_run : (P : World → Type 0) → IsKeptByLanes P → (list : List Occurrence) → IsRun start list → (lane : ℕ) → lane < LANES → P (lane_at (cluster_run start list) lane)
   lanes_in_run P kept list run lane inside =
@@ -77,7 +72,7 @@ module _ (masters backups : ℕ) (few : masters ≤ MOST_MASTERS) (backed : 1 �
       (get_or-map-range_with_len (λ (number : ℕ). new_world number masters backups) 0 LANES q q (new_world q 0 0)
       (omega (arith, there, start_long)) (omega arith)))
       (kept.starts q masters backups))
-      lane (within list lane inside)
+      lane (within masters backups few backed few_backups list lane inside)
 
   -- no row is owned by a master that was noticed dead
   pub free_in_run : (list : List Occurrence) (lane : ℕ) → IsRun start list → lane < LANES → NoDeadOwner (lane_at (cluster_run start list) lane).coordinator
@@ -90,7 +85,7 @@ module _ (masters backups : ℕ) (few : masters ≤ MOST_MASTERS) (backed : 1 �
       → visited.world.wire.sent ≡ (lane_at (cluster_run start list) lane).wire.sent + 1
   sends_in_run list lane client call visited run out here is =
       client_sends Lasts masters (cluster_run start list) (good_after masters backups few backed few_backups list run) lane client
-      (within list lane (subst (λ (l : ℕ). l < LANES) here (mod_below (hash_of call.key) LANES (omega arith)))) call out here visited is
+      (within masters backups few backed few_backups list lane (subst (λ (l : ℕ). l < LANES) here (mod_below (hash_of call.key) LANES (omega arith)))) call out here visited is
 
   pub worn_in_run : (list : List Occurrence) (lane client : ℕ) (error : StepError) → IsRun start list
       → is_added (lane_at (cluster_run start list) lane).ledger client ≡ true

@@ -2,8 +2,7 @@
 use Rattle.std.proofs.Common.{arith, ◌≡◌, ℕ, Some, None, sym, subst, ◌∙◌, Ok}
 use Rattle.rk_inv_base.proofs.Words.{get, Member, Node, row_of, Moving, Owned, Row, Message, Called, Gave, refusal, Stepped, delivered}
 use Rattle.rk_inv_base.proofs.Words.{delivered_to, happened, step, stepped_by, World, Event, IsSound}
-use Rattle.rk_inv_lanes.proofs.Below.{finishes}
-use Rattle.rk_inv_lanes.proofs.Below.{only_joined}
+use Rattle.rk_inv_lanes.proofs.Below.{finishes, only_joined}
 use Rattle.rk_runs.specs.history.Runs.{IsFinishedBy}
 
 -- what a replica answers changes nothing of a delivery to the coordinator

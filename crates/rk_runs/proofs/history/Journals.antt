@@ -1,8 +1,7 @@
 -- The good lanes of a cluster: their journals are lawful, and legal.
 use Rattle.std.proofs.Common.{arith, ℕ, map, slice_index_or, List, [], length, refl, subst, suc, sym, zero, ◌<◌, ◌∷◌, ◌≡◌}
 use Rattle.rk_inv_base.proofs.Words.{All-nil, Base, Cluster, HasOwnKeys, IsLegal, IsRisingAbove, World, base_map, cases_lt, get_or_past}
-use Rattle.rk_inv_base.proofs.Words.{journal_of, lane_at, new_world, none-some}
-use Rattle.rk_model.specs.History.{empty_map}
+use Rattle.rk_inv_base.proofs.Words.{journal_of, lane_at, new_world, none-some, empty_map}
 use Rattle.rk_model.proofs.Lanes.{legal_merged}
 use Rattle.rk_model.specs.Merged.{merged, records_of}
 use Rattle.rk_world.specs.Cluster.{journals_of}

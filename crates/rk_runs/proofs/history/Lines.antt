@@ -1,20 +1,10 @@
 -- The lines of a merged history are the records of the journals that stand in it.
-use Rattle.std.proofs.Common.{◌≡◌, ℕ, Bool, true, List, [], ◌∷◌, refl, sym, subst, ⊎_elim, arith, ◌==◌, map, filter, Contains, eq-eqb}
-use Rattle.std.proofs.Common.{eqb-true}
+use Rattle.std.proofs.Common.{◌≡◌, ℕ, Bool, true, List, [], refl, sym, subst, ⊎_elim, ◌==◌, filter, Contains, eq-eqb, eqb-true}
 use Rattle.rk_inv_base.proofs.Words.{Placed, journal_of, Line}
 use Rattle.rk_model.specs.Merged.{IsMergedFrom, is_kept}
-use Rattle.rk_inv_base.proofs.rows.Apart.{contains_cases}
 use Rattle.rk_inv_base.proofs.pulls.Joining.{kept_stands, stands_kept}
+pub use Rattle.rk_inv_base.proofs.views.Among.{mapped_from as unmapped}
 use Rattle.rk_inv_lanes.proofs.Below.{mapped}
-use Rattle.rk_runs.proofs.history.Answers.{at_first, behind}
-
--- what stands in a mapped list is of one that stands in the list
-pub unmapped : {X Y : Type 0} (f : X → Y) (xs : List X) (y : Y) → Contains (map f xs) y → (x : X) × Contains xs x × (f x ≡ y)
-unmapped f [] y stands = absurd (omega (arith, stands.1))
-unmapped f (x ∷ xs) y stands =
-    ⊎_elim (λ (is : f x ≡ y). (x, at_first x xs, is))
-    (λ (later : Contains (map f xs) y). let found = unmapped f xs y later in (found.0, behind x xs found.0 found.1, found.2))
-    (contains_cases (f x) (map f xs) y stands)
 
 module _ (journals : List (List Placed)) (history : List Line) (from : IsMergedFrom journals history) where
   -- a line is of a record that stands in the journal of its lane, and in the history

@@ -10,11 +10,10 @@ use Rattle.rk_world.specs.Stands.{Stands}
 use Rattle.rk_inv_lanes.specs.room.Kept.{IsKept}
 use Rattle.rk_inv_lanes.proofs.room.Events.{kept_event, room_left}
 use Rattle.rk_inv_lanes.proofs.Headlines.{kept_accepted, kept_asked, kept_new, quiet_stands_in_room, all_after, all_new, own_where_all_tell}
-use Rattle.rk_inv_lanes.proofs.Below.{sealed_accepted, sealed_asked, sealed_event, sealed_new, tell_accepted, tell_asked}
-use Rattle.rk_inv_lanes.proofs.Below.{tell_event, tell_new}
+use Rattle.rk_inv_lanes.proofs.Below.{sealed_accepted, sealed_asked, sealed_event, sealed_new, tell_accepted, tell_asked, tell_event}
+use Rattle.rk_inv_lanes.proofs.Below.{tell_new, sound_event}
 use Rattle.rk_inv_lanes.specs.stands.Backups.{AllBackupsTell}
 use Rattle.rk_inv_lanes.specs.Below.{IsSteady}
-use Rattle.rk_inv_lanes.proofs.Below.{sound_event}
 use Rattle.rk_runs.specs.history.Runs.{IsKeptIn}
 use Rattle.rk_runs.proofs.history.Clusters.{IsGood, IsGoodLane}
 use Rattle.rk_runs.proofs.history.Histories.{good_run, good_start, one_history}
@@ -86,7 +85,7 @@ module _ (masters backups : ℕ) (few : masters ≤ MOST_MASTERS) (backed : 1 �
       (good_start Lasts masters backups few backed few_backups lasts_start) run
 
   -- each lane is there
-  within : (list : List Occurrence) (lane : ℕ) → lane < LANES → lane < length (cluster_run start list).lanes
+  pub within : (list : List Occurrence) (lane : ℕ) → lane < LANES → lane < length (cluster_run start list).lanes
   within list lane inside = grind (arith, lanes_stay, length-map-range_with_len, new_world)
 
   lane_good : (list : List Occurrence) → IsRun start list → (lane : ℕ) → lane < LANES → IsGoodLane Lasts masters lane (lane_at (cluster_run start list) lane)

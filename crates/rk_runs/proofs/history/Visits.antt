@@ -64,9 +64,6 @@ module _ (before after : ℕ → Ledger) (lane client : ℕ) (session : Session)
         asked_put w.ledger session.client (record { call = call; seen = session.seen }) c
         ∙ put_other (asked_by w.ledger) session.client (Some (record { call = call; seen = session.seen })) c apart
 
-    turn_is : session_turn session ≡ Some (turn_by session call (range_of session call))
-    turn_is = ap (turn_of session) is_out
-
     abbrev turned : ClientTurn
     turned = turn_by session call (range_of session call)
 
@@ -90,7 +87,7 @@ module _ (before after : ℕ → Ledger) (lane client : ℕ) (session : Session)
         }
 
     pub agree_asking : ChangesAt before after lane (asking w session (Some call)).world.ledger → AgreeAfter before after client (asking w session (Some call)).session
-    agree_asking = go (fits_with w session call) (session_turn session) turn_is
+    agree_asking = go (fits_with w session call) (session_turn session) (ap (turn_of session) is_out)
       where
         go : (fits : Bool) (turn : Option ClientTurn) → turn ≡ Some turned → ChangesAt before after lane (cond fits (asking_by w session call turn) (untouched w session None)).world.ledger
             → AgreeAfter before after client (cond fits (asking_by w session call turn) (untouched w session None)).session
