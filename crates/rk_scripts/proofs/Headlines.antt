@@ -5,10 +5,9 @@ use Rattle.rk_scripts.proofs.Words.{Fate, IsHistorical, played_part, Cluster, Oc
 use Rattle.rk_scripts.proofs.Words.{IsQuietCluster, NoMemory, faultless, ReplicaFault, MOST_BACKUPS, cluster_run, new_cluster, IsRun}
 use Rattle.rk_scripts.proofs.Words.{MOST_MASTERS, AreAdded, Adversary, Ends, settling, Rests, priority, priority_are, AlwaysEnds}
 use Rattle.rk_scripts.proofs.Words.{session_at, serve, serve_are, advance, advance_code, advance_are, EndsUnlessRefused, Code}
-use Rattle.rk_scripts.proofs.Words.{SettlingCommand}
+use Rattle.rk_scripts.proofs.Words.{SettlingCommand, all_fates}
 use Rattle.rk_cluster.specs.Faults.{Counts, GoOn}
 use Rattle.rk_settle.proofs.Quiet.{rests_quiet}
-use Rattle.rk_play.specs.Played.{all_fates}
 use Rattle.rk_scripts.specs.answers.Pieces.{AreAnswers, acting_in}
 use Rattle.rk_scripts.specs.play.Alone.{IsFaultless, NoneRose}
 use Rattle.rk_scripts.specs.play.Led.{IsLedBy}

@@ -122,3 +122,9 @@ pub use Rattle.rk_scripts.specs.answers.Pieces.{Piece, piece_said, piece_text}
 pub use Rattle.rk_scripts.specs.answers.Said.{is_reply_to, replies_to, said_along, told_by, told_to}
 pub use Rattle.rk_scripts.specs.play.Historical.{IsHistorical}
 pub use Rattle.rk_scripts.specs.settle.Moves.{Adversary, AlwaysEnds, Ends, EndsUnlessRefused, Rests, Stops, after_moves, settling}
+pub use Rattle.rk_cluster.specs.Codes.{MOST_CALLS, call_code, client_code, crash_code}
+pub use Rattle.rk_inv_wellformed.proofs.maps.Lists.{all_before, all_find}
+pub use Rattle.rk_play.specs.Played.{all_fates, ending}
+pub use Rattle.rk_world.specs.Refusals.{MOST_CLIENTS, address_fault, fault_of}
+pub use Rattle.std.proofs.lemmas.Bool.{cond_both, eqb-false, lt-leb, or_parts}
+pub use Rattle.std.proofs.lemmas.List.{get_or_past, map-append, replicate-append-replicate}

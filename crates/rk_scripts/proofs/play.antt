@@ -12,7 +12,6 @@ pub mod Commanding
 pub mod Resending
 pub mod Going
 pub mod Led
-pub mod Stepping
 pub mod Openings
 pub mod Kinds
 pub mod Playing

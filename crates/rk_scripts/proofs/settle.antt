@@ -24,10 +24,7 @@ pub mod Emptying
 pub mod Exchanging
 pub mod Duties
 pub mod Walking
-pub mod Idling
-pub mod Asking
 pub mod Passing
-pub mod Resting
 pub mod Rounds
 pub mod Exchanged
 pub mod Finishing

@@ -1,16 +1,33 @@
 -- What a command writes is a piece of text, and what clients said in it is what they said along the command's occurrences.
-use Rattle.std.proofs.Common.{arith, ◌≡◌, ℕ, List, [], ◌∷◌, Option, None, Some, refl, sym, ap}
-use Rattle.rk_scripts.proofs.Words.{none-some, Said, Cluster, Occurrence, Acted, all_acted, Fate, number_of, Code, Course, course_of}
-use Rattle.rk_scripts.proofs.Words.{error_of, moved_all, SettleError, Command, Effect, Refuses, Stop, Wears, carried, carried_by, effect}
-use Rattle.rk_scripts.proofs.Words.{effect_within, refused_by, settled, settled_by, shown, stop_of, dump_code, where_code, Piece}
-use Rattle.rk_scripts.proofs.Words.{piece_said, piece_text, said_along}
+use Rattle.std.proofs.Common.{◌≡◌, List, [], ◌∷◌, arith, ℕ, Option, None, Some, refl, sym, ap}
+use Rattle.rk_scripts.proofs.Words.{Cluster, all_acted, Fate, Course, moved, moved_all, said_along, none-some, Said, Occurrence, Acted}
+use Rattle.rk_scripts.proofs.Words.{number_of, Code, course_of, error_of, SettleError, Command, Effect, Refuses, Stop, Wears, carried}
+use Rattle.rk_scripts.proofs.Words.{carried_by, effect, effect_within, refused_by, settled, settled_by, shown, stop_of, dump_code}
+use Rattle.rk_scripts.proofs.Words.{where_code, Piece, piece_said, piece_text}
+use Rattle.rk_scripts.proofs.answers.Along.{came_said, said_joins}
+use Rattle.rk_scripts.proofs.play.Moving.{IsCourseFrom, moved_from}
 use Rattle.rk_lines.specs.Lines.{said_lines}
 use Rattle.rk_play.specs.Effects.{ending_at, writing}
 use Rattle.rk_scripts.specs.answers.Pieces.{Dump, History, IsPieceOf, Says, Where}
-use Rattle.rk_scripts.proofs.answers.Along.{came_said}
-use Rattle.rk_scripts.proofs.answers.Moves.{IsCourseSaid, all_moved_said}
-use Rattle.rk_scripts.proofs.play.Moving.{IsCourseFrom}
 use Rattle.rk_scripts.proofs.play.Kinds.{effect_by, within_by}
+
+-- What clients said in the course of a settling command is what they said along all that occurred in it.
+
+-- what clients said in a course is what they said along all that occurred in it
+abbrev pub IsCourseSaid : Cluster → Course → Type 0
+IsCourseSaid start course = course.said ≡ said_along start course.occurred
+
+-- it stays so at a move; the tasks of a course have no name outside their crate, so it is `grind` that goes through them
+moved_said : (start : Cluster) (course : Course) (fate : Fate) → IsCourseFrom start course → IsCourseSaid start course
+    → IsCourseSaid start (moved course fate)
+moved_said start course fate from says = grind (arith, all_acted, came_said, said_along, said_joins)
+
+-- and at all of them
+pub all_moved_said : (start : Cluster) (course : Course) (fates : List Fate) → IsCourseFrom start course → IsCourseSaid start course
+    → IsCourseSaid start (moved_all course fates)
+all_moved_said start course [] from says = says
+all_moved_said start course (fate ∷ fates) from says =
+    all_moved_said start (moved course fate) fates (moved_from start course fate from) (moved_said start course fate from says)
 
 -- a command that has not stopped has written its piece, in which clients said what they did at its occurrences
 pub record HasWritten (command : Command) (start : Cluster) (it : Effect) : Type 0 where

@@ -4,11 +4,10 @@ use Rattle.std.proofs.Common.{append_assoc}
 use Rattle.rk_scripts.proofs.Words.{filter-append, Said, NoMemory, Refused, ReplicaFault, Cluster, Occurrence, cluster_run, new_cluster}
 use Rattle.rk_scripts.proofs.Words.{runs_join, Fate, Numbered, Effect, Fails, Pauses, Refuses, Stop, Wears, effect_within, Played, Setting}
 use Rattle.rk_scripts.proofs.Words.{behind, cluster_by, continued, first_fates, how_many, other_fates, played_in, played_part, refused_at}
-use Rattle.rk_scripts.proofs.Words.{stopped_at, Piece, piece_said, piece_text, is_reply_to, replies_to, said_along, told_to}
+use Rattle.rk_scripts.proofs.Words.{stopped_at, Piece, piece_said, piece_text, is_reply_to, replies_to, said_along, told_to, ending}
 use Rattle.std.proofs.lemmas.List.Concat.{flat_map-cons}
 use Rattle.rk_types.specs.declared.status.Status.{Status}
 use Rattle.rk_types.specs.declared.status.Status.TheVariants.{Done, Worn}
-use Rattle.rk_play.specs.Played.{ending}
 use Rattle.rk_scripts.specs.answers.Pieces.{AreAnswers, AreInOrder, IsLast, Refusal, acting_in, pieces_said}
 use Rattle.rk_scripts.proofs.answers.Along.{said_joins}
 use Rattle.rk_scripts.proofs.answers.Effects.{HasWritten, IsWriting, within_writes}

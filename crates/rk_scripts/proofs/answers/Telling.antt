@@ -3,9 +3,8 @@
 use Rattle.std.proofs.Common.{◌≡◌, ℕ, ◌+◌, ◌-◌, Bool, true, false, cond, eqb, List, [], ◌∷◌, ◌++◌, length, length-append, map, Option, None}
 use Rattle.std.proofs.Common.{Some, IfSome, slice_get, refl, sym, ap, subst, ◌∙◌, append-nil, arith, ◌==◌, eq-eqb, ne_eqb}
 use Rattle.rk_scripts.proofs.Words.{Call, Op, Said, Body, Message, accepting, asking, asking_by, fits_with, is_asked_here, taking}
-use Rattle.rk_scripts.proofs.Words.{untouched, Session, call_lane, session_calling, World, replies_to, told_by, Taken}
+use Rattle.rk_scripts.proofs.Words.{untouched, Session, call_lane, session_calling, World, replies_to, told_by, Taken, map-append}
 use Rattle.std.proofs.Math.Seq.{get_or-append_seam}
-use Rattle.std.proofs.lemmas.List.{map-append}
 use Rattle.std.proofs.lemmas.Option.{slice_get-get_or}
 use Rattle.rk_types.specs.declared.call.Answer.{Answer}
 use Rattle.rk_types.specs.declared.call.Outcome.{Outcome}

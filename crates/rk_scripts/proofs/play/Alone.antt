@@ -1,11 +1,10 @@
 -- Where no count of a replica rose no call has failed.
 use Rattle.std.proofs.Common.{◌≡◌, ◌<◌, ℕ, List, [], ◌∷◌, All, length, map, replicate, Option, IfSome, refl, ap, arith}
-use Rattle.rk_scripts.proofs.Words.{All-head, Fate, Kept, faultless}
+use Rattle.rk_scripts.proofs.Words.{All-head, Fate, Kept, faultless, all_fates}
 use Rattle.rk_cluster.proofs.Faults.{is_of_it, times_both}
 use Rattle.rk_cluster.specs.Faults.{Counts, GoOn, MOST_COUNT, RoseBy, times_lost}
 use Rattle.rk_cluster.specs.Replicas.{IsLost, Lost}
 use Rattle.rk_settle.specs.Faults.{RoseInRounds}
-use Rattle.rk_play.specs.Played.{all_fates}
 use Rattle.rk_scripts.specs.play.Alone.{IsFaultless, NoneRose}
 
 -- a count that stays, and is less than the greatest, rose by nothing

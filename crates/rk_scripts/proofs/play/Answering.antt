@@ -3,7 +3,7 @@ use Rattle.std.proofs.Common.{◌≡◌, ◌≤◌, ◌<◌, ◌++◌, ◌∙◌
 use Rattle.std.proofs.Common.{sym, ap, subst, arith, cond, length-append, eq-eqb}
 use Rattle.rk_scripts.proofs.Words.{option_map_or, and_from, get, SEGMENT_BYTES, Node, Segments, NumberedBytes, Log, bytes_of, known_of}
 use Rattle.rk_scripts.proofs.Words.{segment_of, segments, Body, Message, Called, called_by, IsWellFormed, limits_of, IsMaster, IsTold}
-use Rattle.rk_scripts.proofs.Words.{HasRoom, World, backup_at, Event, IsSound}
+use Rattle.rk_scripts.proofs.Words.{HasRoom, World, backup_at, Event, IsSound, all_find}
 use Rattle.rk_outside.specs.Segments.{bytes_of as stored_bytes, with_part}
 use Rattle.rk_log.specs.Log.{IsBackup, segment_bytes}
 use Rattle.rk_backup.specs.Accepts.{added}
@@ -16,7 +16,6 @@ use Rattle.rk_world.specs.World.{log_in}
 use Rattle.rk_sound.specs.Logs.{IsFirstPart, IsFromLog, LogSays}
 use Rattle.rk_inv_wellformed.proofs.bytes.Segments.{IsTold as CanBeTold, segments_told}
 use Rattle.rk_inv_wellformed.proofs.lanes.Worlds.{master_of, room_at}
-use Rattle.rk_inv_wellformed.proofs.maps.Lists.{all_find}
 use Rattle.rk_inv_base.proofs.logs.BytesStored.{part_taken}
 use Rattle.rk_inv_lanes.proofs.Below.{added_front}
 

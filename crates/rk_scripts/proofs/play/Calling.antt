@@ -2,7 +2,7 @@
 use Rattle.std.proofs.Common.{◌≡◌, ℕ, ◌<◌, ◌≤◌, ◌-◌, ◌^◌, ◌||◌, not, nat_le, false, List, [], ◌∷◌, length, Option, Some, None, is_some}
 use Rattle.std.proofs.Common.{unwrap_or, refl, arith, w32, sum_by, leb-false}
 use Rattle.rk_scripts.proofs.Words.{get, Call, Op, Session, new_session, Calls, Cluster, session_at, code_where, first_code, calls_asked}
-use Rattle.rk_scripts.proofs.Words.{has_table, is_client, rows_of, Limit, Unknown, acted, all_acted, IsGood}
+use Rattle.rk_scripts.proofs.Words.{has_table, is_client, rows_of, Limit, Unknown, acted, all_acted, IsGood, MOST_CALLS, call_code}
 use Rattle.std.proofs.lemmas.List.Sums.{get_or-le-sum_by, sum-map}
 use Rattle.rk_script.proofs.Widths.{HasVersion}
 use Rattle.rk_script.specs.Lawful.{HasLawfulValue, MayBeAsked}
@@ -10,7 +10,6 @@ use Rattle.rk_message.specs.Calls.{IsLawfulOp}
 use Rattle.rk_world.specs.Client.{next_call}
 use Rattle.rk_world.specs.Premises.{IsLawfulCall}
 use Rattle.rk_inv_wellformed.proofs.maps.Maps.{each_from_pairs}
-use Rattle.rk_cluster.specs.Codes.{MOST_CALLS, call_code}
 use Rattle.rk_cluster.specs.Looks.{calls_of}
 use Rattle.rk_cluster.specs.Makes.{call_makes}
 use Rattle.rk_cluster.specs.declared.code.Code.TheVariants.{Busy}

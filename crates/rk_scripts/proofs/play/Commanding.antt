@@ -5,8 +5,7 @@ use Rattle.rk_scripts.proofs.Words.{All-append, All-cons, All-filter, All-map, A
 use Rattle.rk_scripts.proofs.Words.{row_of, Gave, Session, call_lane, Asks, Cluster, Joins, Occurrence, lane_at, Master, IsMaster}
 use Rattle.rk_scripts.proofs.Words.{MayHappen, IsTold, World, live_masters, new_world, Event, code_where, first_code, all_lanes}
 use Rattle.rk_scripts.proofs.Words.{calls_asked, has_table, is_dead, is_master, is_tablet, lanes_without, rows_of, client_makes, in_lane}
-use Rattle.rk_scripts.proofs.Words.{in_lanes, Crashed, Limit, TooLate, Unknown, IsNoCrash, Node}
-use Rattle.std.proofs.lemmas.Bool.{or_parts}
+use Rattle.rk_scripts.proofs.Words.{in_lanes, Crashed, Limit, TooLate, Unknown, IsNoCrash, Node, all_before, or_parts}
 use Rattle.rk_cluster.specs.Codes.{MOST_TABLES, MOST_TABLETS, migrate_code, notice_code, split_code, table_code}
 use Rattle.rk_cluster.specs.Looks.{has_dead_owner, has_inside, is_owned, is_owner, owner_at, tables_of}
 use Rattle.rk_cluster.specs.Makes.{asks_by, asks_in, forget_by, forget_makes, migrate_makes, next_tablet, notice_makes, split_makes}
@@ -17,7 +16,6 @@ use Rattle.rk_scripts.proofs.play.Allowed.{IsFree}
 use Rattle.rk_scripts.proofs.play.Masters.{names_masters}
 use Rattle.rk_scripts.proofs.play.Reaching.{IsReached}
 use Rattle.rk_scripts.proofs.play.Tests.{master_there, passes}
-use Rattle.rk_inv_wellformed.proofs.maps.Lists.{all_before}
 
 module _ (masters backups : ℕ) (cluster : Cluster) (reached : IsReached masters backups cluster) where
   abbrev Allowed : List Occurrence → Type 0

@@ -1,12 +1,11 @@
 -- A master crashes in one lane after the other, while another one lives in each: this goes on with a run.
 use Rattle.std.proofs.Common.{◌≡◌, ℕ, zero, suc, ◌+◌, ◌<◌, ◌≤◌, true, not, List, [], ◌∷◌, map, None, refl, sym, subst, arith}
 use Rattle.std.proofs.Common.{get_or-set_other}
-use Rattle.rk_scripts.proofs.Words.{range_with_len, LANES, Cluster, Occurrence, cluster_after, cluster_stepped, lane_at, IsMaster}
-use Rattle.rk_scripts.proofs.Words.{refusal, happened, stepped_by, World, new_world, acted, all_acted, code_where, first_code}
-use Rattle.rk_scripts.proofs.Words.{is_dead, is_master, in_lane, Crashed, Unknown, not-false, Event}
+use Rattle.rk_scripts.proofs.Words.{range_with_len, LANES, Cluster, Occurrence, cluster_after, cluster_stepped, lane_at, IsMaster, refusal}
+use Rattle.rk_scripts.proofs.Words.{happened, stepped_by, World, new_world, acted, all_acted, code_where, first_code, is_dead, is_master}
+use Rattle.rk_scripts.proofs.Words.{in_lane, Crashed, Unknown, not-false, Event, crash_code}
 use Rattle.std.proofs.lemmas.List.Sums.{AllPass-from_list_all}
 use Rattle.rk_world.specs.Runs.{lives_another}
-use Rattle.rk_cluster.specs.Codes.{crash_code}
 use Rattle.rk_cluster.specs.Looks.{is_other_alive}
 use Rattle.rk_cluster.specs.Makes.{crash_makes}
 use Rattle.rk_cluster.specs.declared.code.Code.TheVariants.{LastMaster}

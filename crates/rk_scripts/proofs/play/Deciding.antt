@@ -4,8 +4,7 @@ use Rattle.rk_scripts.proofs.Words.{none-some, NoMemory, Cluster, Fate, Kept, Co
 use Rattle.rk_scripts.proofs.Words.{Course, course_of, error_of, moved, moved_all, moved_by, priority, serve, settle, Command, Numbered}
 use Rattle.rk_scripts.proofs.Words.{Effect, Pauses, Stop, carried, effect, effect_within, is_full, only_fate, refused_by, settled}
 use Rattle.rk_scripts.proofs.Words.{settled_by, Played, behind, cluster_by, continued, faultless, first_fates, other_fates, played_in}
-use Rattle.rk_scripts.proofs.Words.{played_part}
-use Rattle.std.proofs.lemmas.List.{replicate-append-replicate}
+use Rattle.rk_scripts.proofs.Words.{played_part, replicate-append-replicate}
 use Rattle.rk_settle.proofs.Lossless.{stands_still}
 use Rattle.rk_scripts.proofs.play.Openings.{opening}
 use Rattle.rk_cluster.specs.Codes as codes

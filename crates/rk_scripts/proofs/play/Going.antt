@@ -3,8 +3,7 @@ use Rattle.std.proofs.Common.{◌≡◌, ℕ, ◌<◌, List, [], ◌∷◌, Opti
 use Rattle.rk_scripts.proofs.Words.{IsNumber, Cluster, Occurrence, lane_at, LANES, number_at, all_acted, Code, Fate, advance_are}
 use Rattle.rk_scripts.proofs.Words.{priority_are, serve_are, settle_are, advance, advance_code, priority_code, serve_code, Course}
 use Rattle.rk_scripts.proofs.Words.{course_of, moved_all, priority, serve, settle, IsLawfulCommand, Command, Effect, carried, effect}
-use Rattle.rk_scripts.proofs.Words.{effect_within, only_fate, settled, settled_by, shown, dump_code, dump_text, where_code}
-use Rattle.rk_scripts.proofs.Words.{where_text}
+use Rattle.rk_scripts.proofs.Words.{effect_within, only_fate, settled, settled_by, shown, dump_code, dump_text, where_code, where_text}
 use Rattle.rk_script.proofs.Widths.{HasWidths}
 use Rattle.rk_scripts.proofs.play.Allowed.{IsFree, came_on, delivered_on}
 use Rattle.rk_scripts.proofs.play.Calling.{call_on}

@@ -2,14 +2,13 @@
 use Rattle.std.proofs.Common.{◌≡◌, ℕ, ◌<◌, not, find, Option, None, Some, refl, sym, ap, subst, ◌∙◌, arith, IfSome, w32, All}
 use Rattle.rk_scripts.proofs.Words.{range_with_len, All-filter, All-map, get_or-range_with_len, length-range_with_len, numbers, Call, LANES}
 use Rattle.rk_scripts.proofs.Words.{IsNumber, row_of, Row, known_owner, Cluster, lane_at, session_at, limits_of, Master, IsMaster, World}
-use Rattle.rk_scripts.proofs.Words.{has_crashed, live_masters, NamesMasters, unnoticed, IsGoodLane, Lasts}
+use Rattle.rk_scripts.proofs.Words.{has_crashed, live_masters, NamesMasters, unnoticed, IsGoodLane, Lasts, all_before}
 use Rattle.rk_session.specs.Owners.{owner_by_call}
 use Rattle.rk_settle.proofs.Found.{first_holds, owner_there, row_names}
 use Rattle.rk_settle.specs.Lawful.{AreNamed}
 use Rattle.rk_settle.specs.Settle.{is_unnoticed}
 use Rattle.rk_runs.proofs.history.Clusters.{IsGoodSession}
 use Rattle.rk_scripts.proofs.play.Reaching.{IsReached, lane_good, reached_eight, reached_good}
-use Rattle.rk_inv_wellformed.proofs.maps.Lists.{all_before}
 
 -- ---- masters that live
 

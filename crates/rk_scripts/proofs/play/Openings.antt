@@ -3,13 +3,12 @@
 use Rattle.std.proofs.Common.{◌≡◌, ℕ, List, [], ◌∷◌, Option, Result, Ok, Err, if◌then◌else◌, refl, subst, arith, take, All}
 use Rattle.rk_scripts.proofs.Words.{All-head, All-tail, NoMemory, Fate, number_of, IsLawfulCommand, script_of, Command, Numbered}
 use Rattle.rk_scripts.proofs.Words.{ParseError, Played, Setting, cluster_by, first_commands, opened_by, played_from, played_in, played_of}
-use Rattle.rk_scripts.proofs.Words.{played_part, refused_at, set_once, unset}
+use Rattle.rk_scripts.proofs.Words.{played_part, refused_at, set_once, unset, ending}
 use Rattle.std.proofs.lemmas.List.Elements.{All-take}
 use Rattle.rk_script.proofs.LawfulLemmas.{script_of-lawful}
 use Rattle.rk_script.proofs.Widths.{HasWidthsAt, script_of-widths}
 use Rattle.rk_script.specs.Codes.{code_number}
 use Rattle.rk_script.specs.Lawful.{IsLawful}
-use Rattle.rk_play.specs.Played.{ending}
 use Rattle.rk_play.specs.Settings.{IsSetting}
 use Rattle.rk_scripts.specs.answers.Pieces.{acting, acting_in, acting_of, is_setting}
 

@@ -1,6 +1,6 @@
 -- `advance` ends where it is not refused.
-use Rattle.std.proofs.Common.{◌≡◌, ◌<◌, ◌≤◌, ◌+◌, ◌==◌, ◌||◌, ℕ, zero, suc, Bool, true, false, not, nat_le, List, [], ◌∷◌, length, map}
-use Rattle.std.proofs.Common.{Option, None, refl, sym, ap, subst, ◌∙◌, inl, arith, eqb-true, true≢false}
+use Rattle.std.proofs.Common.{◌≡◌, ◌<◌, ◌≤◌, ◌+◌, ◌||◌, ℕ, zero, suc, Bool, true, false, not, nat_le, List, [], ◌∷◌, length, map, Option}
+use Rattle.std.proofs.Common.{None, refl, sym, ap, subst, ◌∙◌, inl, arith, true≢false}
 use Rattle.rk_scripts.proofs.Words.{list_any, range_with_len, false≢true, none-some, LANES, row_of, Row, Cluster}
 use Rattle.rk_scripts.proofs.Words.{lane_at, World, has_crashed, code_where, first_code, all_lanes, is_tablet, Code, Crashed, Unknown}
 use Rattle.rk_scripts.proofs.Words.{advance, advance_code, Course, course_of, is_short_of}
@@ -11,7 +11,8 @@ use Rattle.rk_scripts.proofs.settle.Advancing.{advancing}
 use Rattle.rk_scripts.proofs.settle.ExchangeTasks.{Reach, advances}
 use Rattle.rk_scripts.proofs.settle.Going.{Comes, Goes, comes_here, goes_done, goes_on}
 use Rattle.rk_scripts.proofs.settle.Migrating.{First, migrates, migrates_by}
-use Rattle.rk_scripts.proofs.settle.Noticing.{is_in, in_range}
+use Rattle.rk_inv_base.proofs.views.Lists.{none_pass}
+use Rattle.rk_scripts.proofs.settle.Noticing.{is_in, in_range, stands_in}
 use Rattle.rk_scripts.proofs.settle.Ordering.{IsLaneNow}
 use Rattle.rk_scripts.proofs.settle.Rounds.{Never}
 use Rattle.rk_scripts.proofs.settle.Setting.{IsSane, Setting}
@@ -39,13 +40,7 @@ where_none false code none = refl
 
 -- what none of a list passes, one of them does not
 any_none : (test : ℕ → Bool) (list : List ℕ) (n : ℕ) → list_any test list ≡ false → is_in n list ≡ true → test n ≡ false
-any_none test [] n none there = absurd (false≢true there)
-any_none test (first ∷ list) n none there =
-    let each = neither (test first) (list_any test list) none in go (first == n) refl there each.0 (any_none test list n each.1)
-  where
-    go : (b : Bool) → (first == n) ≡ b → (b || is_in n list) ≡ true → test first ≡ false → (is_in n list ≡ true → test n ≡ false) → test n ≡ false
-    go true is there fails later = ap test (sym (eqb-true first n is)) ∙ fails
-    go false is there fails later = later there
+any_none test list n none there = none_pass test list none n (stands_in list n there)
 
 module _ (cluster : Cluster) (tablet : ℕ) (reach : Reach) (eight : length cluster.lanes ≡ LANES) (allowed : advance_code cluster tablet reach ≡ None) where
   -- in each lane where the migration is short of the reach, its parties live

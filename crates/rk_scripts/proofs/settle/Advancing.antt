@@ -1,7 +1,7 @@
 -- `advance` ends where it is not refused: in each lane where the migration is short of the reach its source and its target live, and it is
 -- brought from reach to reach.
-use Rattle.std.proofs.Common.{◌≡◌, ◌<◌, ◌+◌, ℕ, Bool, true, false, cond, not, List, [], ◌∷◌, ◌++◌, map, Option, None, Some, refl, sym, ap}
-use Rattle.std.proofs.Common.{subst, ◌∙◌, inl, inr, ⊎_elim, arith, ◌⊎◌}
+use Rattle.std.proofs.Common.{◌≡◌, ◌<◌, ◌+◌, ℕ, Bool, true, false, cond, List, [], ◌∷◌, ◌++◌, map, Option, None, Some, refl, sym, ap, subst}
+use Rattle.std.proofs.Common.{inl, inr, ⊎_elim, arith, ◌⊎◌}
 use Rattle.rk_scripts.proofs.Words.{LANES, Phase, Opening, Moving, Row, Cluster, lane_at, World, tablet_in, reach_phase, Course, is_joining}
 use Rattle.rk_scripts.proofs.Words.{is_short_of, is_source_frozen, is_target, Begun, Frozen, Granted, Pulled, Joined, Finished}
 use Rattle.rk_scripts.proofs.Words.{advance_tasks, reaches_to, Role}
@@ -13,7 +13,7 @@ use Rattle.rk_scripts.proofs.settle.Lanes.{IsSameBeside}
 use Rattle.rk_scripts.proofs.settle.Migrated.{closes_it, moving_frozen}
 use Rattle.rk_scripts.proofs.settle.Migrating.{AfterBegun, AfterFrozen, AfterGranted, AfterPulled, First, HasGrant, HasNoMigration}
 use Rattle.rk_scripts.proofs.settle.Migrating.{HasPulled, IsBegun, IsFrozen, IsIn, IsMoving, IsOpening, makes_ready, no_tasks, skips}
-use Rattle.rk_scripts.proofs.settle.Migrating.{tasks_in, unfolds}
+use Rattle.rk_scripts.proofs.settle.Migrating.{tasks_in, tasks_where, unfolds}
 use Rattle.rk_scripts.proofs.settle.Numbers.{sends_left}
 use Rattle.rk_scripts.proofs.settle.Ordering.{IsLaneNow}
 use Rattle.rk_scripts.proofs.settle.Setting.{Setting}
@@ -21,6 +21,10 @@ use Rattle.rk_scripts.proofs.settle.Staging.{good_at}
 use Rattle.rk_scripts.proofs.settle.Tasks.{Task}
 
 module _ (s : Setting) (lane : ℕ) (inside : lane < LANES) (origin : Cluster) (tablet : ℕ) (rest : List Task) where
+  -- the lane of a course
+  abbrev its : Course → World
+  its course = lane_at course.cluster lane
+
   -- a step of a migration: where this holds of its lane it comes to where that does
   abbrev Step : Reach → (World → Type 0) → (World → Type 0) → Type 0
   Step reach P Q =
@@ -46,109 +50,95 @@ module _ (s : Setting) (lane : ℕ) (inside : lane < LANES) (origin : Cluster) (
 
   step_begun : Step Begun (First tablet) (AfterBegun tablet)
   step_begun before course comes are beside first = ⊎_elim
-      (λ (none : HasNoMigration tablet w). skips_none Begun (AfterBegun tablet) before course comes are beside none (inl none))
-      (λ (some : IsOpening tablet w ⊎ IsMoving tablet w).
-      ⊎_elim (λ (o : IsOpening tablet w). opening o.row o.source o.sfrom o.target o.dfrom o.there)
-      (λ (m : IsMoving tablet w).
+      (λ (none : HasNoMigration tablet (its course)). skips_none Begun (AfterBegun tablet) before course comes are beside none (inl none))
+      (λ (some : IsOpening tablet (its course) ⊎ IsMoving tablet (its course)).
+      ⊎_elim (λ (o : IsOpening tablet (its course)). opening o.row o.source o.sfrom o.target o.dfrom o.there)
+      (λ (m : IsMoving tablet (its course)).
       skips s lane inside origin rest (AfterBegun tablet) tablet Begun before course comes are beside
-      (tasks_in w lane tablet Begun m.row (Moving m.source m.sfrom m.target m.dfrom) m.there.found m.there.phase_is) (inr (inr m)))
+      (tasks_in (its course) lane tablet Begun m.row (Moving m.source m.sfrom m.target m.dfrom) m.there.found m.there.phase_is) (inr (inr m)))
       some)
       first
     where
-      w : World
-      w = lane_at course.cluster lane
-
-      opening : (row : Row) (source sfrom target : ℕ) (dfrom : Option ℕ) → IsIn tablet row (Opening source sfrom target dfrom) source target w
+      opening : (row : Row) (source sfrom target : ℕ) (dfrom : Option ℕ) → IsIn tablet row (Opening source sfrom target dfrom) source target (its course)
           → Goes s before course (IsLaneNow lane origin rest (AfterBegun tablet))
       opening row source sfrom target None there =
           by_row Begun AfterBegun row (Opening source sfrom target None) source target before course
           (λ a t. makes_ready s lane inside origin rest row source sfrom target before course comes a beside t) are there
       opening row source sfrom target (Some dfrom) there =
           skips s lane inside origin rest (AfterBegun tablet) tablet Begun before course comes are beside
-          (tasks_in w lane tablet Begun row (Opening source sfrom target (Some dfrom)) there.found there.phase_is)
+          (tasks_in (its course) lane tablet Begun row (Opening source sfrom target (Some dfrom)) there.found there.phase_is)
           (inr (inl (record { row = row; source = source; sfrom = sfrom; target = target; dfrom = dfrom; there = there })))
 
   step_frozen : Step Frozen (AfterBegun tablet) (AfterFrozen tablet)
   step_frozen before course comes are beside begun = ⊎_elim
-      (λ (none : HasNoMigration tablet w). skips_none Frozen (AfterFrozen tablet) before course comes are beside none (inl none))
-      (λ (some : IsBegun tablet w ⊎ IsMoving tablet w).
+      (λ (none : HasNoMigration tablet (its course)). skips_none Frozen (AfterFrozen tablet) before course comes are beside none (inl none))
+      (λ (some : IsBegun tablet (its course) ⊎ IsMoving tablet (its course)).
       ⊎_elim
-      (λ (o : IsBegun tablet w).
+      (λ (o : IsBegun tablet (its course)).
       by_row Frozen AfterFrozen o.row (Opening o.source o.sfrom o.target (Some o.dfrom)) o.source o.target before course
       (λ a t. closes_it s lane inside origin rest o.row o.source o.sfrom o.target o.dfrom before course comes a beside t) are o.there)
-      (λ (m : IsMoving tablet w).
-      let frozen : is_source_frozen w m.row m.source ≡ true =
-      moving_frozen s lane inside origin rest m.row m.source m.sfrom m.target m.dfrom w (good_at s course comes.sane lane inside)
-      (subst (λ (t : ℕ). IsIn t m.row (Moving m.source m.sfrom m.target m.dfrom) m.source m.target w)
-      (sym (named_so m.row (Moving m.source m.sfrom m.target m.dfrom) m.source m.target w m.there)) m.there) in
+      (λ (m : IsMoving tablet (its course)).
+      let frozen : is_source_frozen (its course) m.row m.source ≡ true =
+      moving_frozen s lane inside origin rest m.row m.source m.sfrom m.target m.dfrom (its course) (good_at s course comes.sane lane inside)
+      (subst (λ (t : ℕ). IsIn t m.row (Moving m.source m.sfrom m.target m.dfrom) m.source m.target (its course))
+      (sym (named_so m.row (Moving m.source m.sfrom m.target m.dfrom) m.source m.target (its course) m.there)) m.there) in
       skips s lane inside origin rest (AfterFrozen tablet) tablet Frozen before course comes are beside
-      (tasks_in w lane tablet Frozen m.row (Moving m.source m.sfrom m.target m.dfrom) m.there.found m.there.phase_is
-      ∙ ap (λ (b : Bool). cond (not b) (reach_phase lane tablet (Moving m.source m.sfrom m.target m.dfrom) Frozen) []) frozen)
+      (tasks_where (its course) lane tablet Frozen m.row (Moving m.source m.sfrom m.target m.dfrom) m.there.found m.there.phase_is true frozen)
       (inr (inr m)))
       some)
       begun
-    where
-      w : World
-      w = lane_at course.cluster lane
 
   step_granted : Step Granted (AfterFrozen tablet) (AfterGranted tablet)
   step_granted before course comes are beside frozen = ⊎_elim
-      (λ (none : HasNoMigration tablet w). skips_none Granted (AfterGranted tablet) before course comes are beside none (inl none))
-      (λ (some : IsFrozen tablet w ⊎ IsMoving tablet w).
+      (λ (none : HasNoMigration tablet (its course)). skips_none Granted (AfterGranted tablet) before course comes are beside none (inl none))
+      (λ (some : IsFrozen tablet (its course) ⊎ IsMoving tablet (its course)).
       ⊎_elim
-      (λ (f : IsFrozen tablet w).
+      (λ (f : IsFrozen tablet (its course)).
       let o = f.closed.begun in
       subst
       (λ (t : ℕ).
-      course.tasks ≡ reaches lane t Granted ∷ rest → IsIn t o.row (Opening o.source o.sfrom o.target (Some o.dfrom)) o.source o.target w
-      → (tablet_in w o.source t).handover.term ≡ o.row.term → (tablet_in w o.source t).handover.role ≡ Role.Frozen → Goes s before course (IsLaneNow lane origin rest (AfterGranted t)))
-      (named_so o.row (Opening o.source o.sfrom o.target (Some o.dfrom)) o.source o.target w o.there)
+      course.tasks ≡ reaches lane t Granted ∷ rest → IsIn t o.row (Opening o.source o.sfrom o.target (Some o.dfrom)) o.source o.target (its course)
+      → (tablet_in (its course) o.source t).handover.term ≡ o.row.term → (tablet_in (its course) o.source t).handover.role ≡ Role.Frozen → Goes s before course (IsLaneNow lane origin rest (AfterGranted t)))
+      (named_so o.row (Opening o.source o.sfrom o.target (Some o.dfrom)) o.source o.target (its course) o.there)
       (λ a t term role. hands_it s lane inside origin rest o.row o.source o.sfrom o.target o.dfrom before course comes a beside t term role)
       are o.there f.closed.term f.role)
-      (λ (m : IsMoving tablet w).
+      (λ (m : IsMoving tablet (its course)).
       by_row Granted AfterGranted m.row (Moving m.source m.sfrom m.target m.dfrom) m.source m.target before course
       (λ a t. moving_granted s lane inside origin rest m.row m.source m.sfrom m.target m.dfrom before course comes a beside t) are m.there)
       some)
       frozen
-    where
-      w : World
-      w = lane_at course.cluster lane
+
+  -- and where the tablet moves, and its target has it in a role that passes this test
+  by_target : (reach : Reach) (test : Role → Bool) (before : Cluster) (course : Course) (m : IsMoving tablet (its course))
+      → (course.tasks ≡ reaches lane m.row.tablet reach ∷ rest → IsIn m.row.tablet m.row (Moving m.source m.sfrom m.target m.dfrom) m.source m.target (its course) → (tablet_in (its course) m.target m.row.tablet).handover.term ≡ m.row.term → test (tablet_in (its course) m.target m.row.tablet).handover.role ≡ true → Goes s before course (IsLaneNow lane origin rest (AfterPulled m.row.tablet)))
+      → course.tasks ≡ reaches lane tablet reach ∷ rest → (tablet_in (its course) m.target tablet).handover.term ≡ m.row.term → test (tablet_in (its course) m.target tablet).handover.role ≡ true → Goes s before course (IsLaneNow lane origin rest (AfterPulled tablet))
+  by_target reach test before course m goes are term role = subst
+      (λ (t : ℕ).
+      course.tasks ≡ reaches lane t reach ∷ rest → IsIn t m.row (Moving m.source m.sfrom m.target m.dfrom) m.source m.target (its course) → (tablet_in (its course) m.target t).handover.term ≡ m.row.term
+      → test (tablet_in (its course) m.target t).handover.role ≡ true → Goes s before course (IsLaneNow lane origin rest (AfterPulled t)))
+      (named_so m.row (Moving m.source m.sfrom m.target m.dfrom) m.source m.target (its course) m.there) goes are m.there term role
 
   step_pulled : Step Pulled (AfterGranted tablet) (AfterPulled tablet)
   step_pulled before course comes are beside granted = ⊎_elim
-      (λ (none : HasNoMigration tablet w). skips_none Pulled (AfterPulled tablet) before course comes are beside none (inl none))
-      (λ (g : HasGrant tablet w).
+      (λ (none : HasNoMigration tablet (its course)). skips_none Pulled (AfterPulled tablet) before course comes are beside none (inl none))
+      (λ (g : HasGrant tablet (its course)).
       let m = g.moving in
-      subst
-      (λ (t : ℕ).
-      course.tasks ≡ reaches lane t Pulled ∷ rest → IsIn t m.row (Moving m.source m.sfrom m.target m.dfrom) m.source m.target w
-      → (tablet_in w m.target t).handover.term ≡ m.row.term → is_target (tablet_in w m.target t).handover.role ≡ true → Goes s before course (IsLaneNow lane origin rest (AfterPulled t)))
-      (named_so m.row (Moving m.source m.sfrom m.target m.dfrom) m.source m.target w m.there)
+      by_target Pulled is_target before course m
       (λ a t term role.
       pulls_within s lane inside origin rest m.row m.source m.sfrom m.target m.dfrom (sends_left course.cluster + 1) before course comes a beside t term role (omega arith))
-      are m.there g.term g.role)
+      are g.term g.role)
       granted
-    where
-      w : World
-      w = lane_at course.cluster lane
 
   step_joined : Step Joined (AfterPulled tablet) (AfterPulled tablet)
   step_joined before course comes are beside pulled = ⊎_elim
-      (λ (none : HasNoMigration tablet w). skips_none Joined (AfterPulled tablet) before course comes are beside none (inl none))
-      (λ (g : HasPulled tablet w).
+      (λ (none : HasNoMigration tablet (its course)). skips_none Joined (AfterPulled tablet) before course comes are beside none (inl none))
+      (λ (g : HasPulled tablet (its course)).
       let m = g.moving in
-      subst
-      (λ (t : ℕ).
-      course.tasks ≡ reaches lane t Joined ∷ rest → IsIn t m.row (Moving m.source m.sfrom m.target m.dfrom) m.source m.target w
-      → (tablet_in w m.target t).handover.term ≡ m.row.term → is_joining (tablet_in w m.target t).handover.role ≡ true → Goes s before course (IsLaneNow lane origin rest (AfterPulled t)))
-      (named_so m.row (Moving m.source m.sfrom m.target m.dfrom) m.source m.target w m.there)
+      by_target Joined is_joining before course m
       (λ a t term role.
       joins_within s lane inside origin rest m.row m.source m.sfrom m.target m.dfrom (sends_left course.cluster + 1) before course comes a beside t term role (omega arith))
-      are m.there g.term g.role)
+      are g.term g.role)
       pulled
-    where
-      w : World
-      w = lane_at course.cluster lane
 
   -- nothing is said of the lane
   abbrev pub Anything : World → Type 0
@@ -156,19 +146,16 @@ module _ (s : Setting) (lane : ℕ) (inside : lane < LANES) (origin : Cluster) (
 
   step_finished : Step Finished (AfterPulled tablet) Anything
   step_finished before course comes are beside pulled =
-      ⊎_elim (λ (none : HasNoMigration tablet w). skips_none Finished Anything before course comes are beside none tt)
-      (λ (g : HasPulled tablet w).
+      ⊎_elim (λ (none : HasNoMigration tablet (its course)). skips_none Finished Anything before course comes are beside none tt)
+      (λ (g : HasPulled tablet (its course)).
       let m = g.moving in
       let list : List Task = reach_phase lane tablet (Moving m.source m.sfrom m.target m.dfrom) Finished in
       goes_on s before course (IsAt course.cluster (list ++ rest)) (IsLaneNow lane origin rest Anything)
       (unfolds s lane inside origin rest tablet Finished list before course comes are
-      (tasks_in w lane tablet Finished m.row (Moving m.source m.sfrom m.target m.dfrom) m.there.found m.there.phase_is))
+      (tasks_in (its course) lane tablet Finished m.row (Moving m.source m.sfrom m.target m.dfrom) m.there.found m.there.phase_is))
       (λ later comes_later at.
       plain_exchanging s lane inside origin rest _ m.target before later comes_later at.tasks_are (subst (IsSameBeside lane origin) (sym at.cluster_is) beside)))
       pulled
-    where
-      w : World
-      w = lane_at course.cluster lane
 
 module _ (s : Setting) (lane : ℕ) (inside : lane < LANES) (origin : Cluster) (tablet : ℕ) where
   -- a migration comes to these reaches, and then to what is said of the lane

@@ -4,8 +4,7 @@ use Rattle.std.proofs.Common.{subst, ◌∙◌, arith, true≢false}
 use Rattle.rk_scripts.proofs.Words.{get, LANES, Node, Message, Called, Gave, accept, Accepts, Cluster, Happens, Occurrence, lane_at}
 use Rattle.rk_scripts.proofs.Words.{session_at, refusal, step, stepped_by, World, acted, worn_in, is_lost_at_backup, is_client}
 use Rattle.rk_scripts.proofs.Words.{deliver_in_makes, delivery, delivery_of, has_receiver, Fate, Kept, Course, occurrence_error, occurring}
-use Rattle.rk_scripts.proofs.Words.{forgets, Arrival, Loses, arrived, forgotten, taken_off, AreAdded, added_after, Event}
-use Rattle.rk_world.specs.Refusals.{address_fault}
+use Rattle.rk_scripts.proofs.Words.{forgets, Arrival, Loses, arrived, forgotten, taken_off, AreAdded, added_after, Event, address_fault}
 use Rattle.rk_cluster.specs.Replicas.{answer_of}
 use Rattle.rk_inv_lanes.specs.wires.Emptied.{Accepts as takes, Delivers as reaches}
 use Rattle.rk_runs.specs.duties.Added.{MayGetSession}

@@ -1,7 +1,7 @@
 -- Who has something left to do in a lane sends on its turn: where nothing is sent, each row is owned by a master that lives, and nothing is
 -- staged at one.
-use Rattle.std.proofs.Common.{◌≡◌, ◌==◌, ◌||◌, ◌<◌, ℕ, Bool, true, false, cond, not, List, [], ◌∷◌, All, filter, length, Option, None, Some}
-use Rattle.std.proofs.Common.{refl, sym, ap, subst, ◌∙◌, inl, inr, ⊎_elim, arith, ◌⊎◌, unwrap_or, option_map, nat_cmp, eq-eqb, eqb-true}
+use Rattle.std.proofs.Common.{◌≡◌, ◌==◌, ◌<◌, ℕ, Bool, true, false, cond, not, List, [], ◌∷◌, All, filter, length, Option, None, Some, refl}
+use Rattle.std.proofs.Common.{sym, ap, subst, ◌∙◌, inl, inr, ⊎_elim, arith, ◌⊎◌, unwrap_or, option_map, nat_cmp, eq-eqb, Contains}
 use Rattle.rk_scripts.proofs.Words.{list_all, option_or, eq_by_cmp, and_from, false≢true, or_left, or_right, All-head, All-tail}
 use Rattle.rk_scripts.proofs.Words.{same_number, NumberMap, get, numbers, Node, Entry, Phase, Owned, Row, Traffic, StepError, Called}
 use Rattle.rk_scripts.proofs.Words.{Coordinator, IsWellFormed, Master, new_master, staged, IsOwnedLive, refusal, where_true, worn, HasRoom}
@@ -9,7 +9,8 @@ use Rattle.rk_scripts.proofs.Words.{world_stepped, happened, step, stepped_by, W
 use Rattle.rk_scripts.proofs.Words.{has_owners, is_owned_live, All_pairs, masters_in_order, AllCaughtUp, wire_counts, AllNoticed}
 use Rattle.rk_scripts.proofs.Words.{NoDeadOwner, Event}
 use Rattle.rk_runs.proofs.duties.Turns.{disowned_sends}
-use Rattle.rk_scripts.proofs.settle.Noticing.{is_in}
+use Rattle.rk_inv_base.proofs.Words.{stands_cases}
+use Rattle.rk_scripts.proofs.settle.Noticing.{in_where, stands_in, is_in}
 use Rattle.rk_scripts.proofs.settle.Turning.{IsTurned, turn_turned}
 
 -- a turn, if it is not refused
@@ -113,14 +114,13 @@ master_waits w number coming called formed room caught fresh same waits =
 
     now : Waits w coming
     now master lives = ⊎_elim (λ (none : staged (master_at w master) ≡ []). inl none)
-        (λ (there : is_in master (number ∷ coming) ≡ true). go (number == master) refl there) (waits master lives)
-      where
-        go : (b : Bool) → (number == master) ≡ b → (b || is_in master coming) ≡ true → (staged (master_at w master) ≡ []) ⊎ (is_in master coming ≡ true)
-        go true is there =
-            let one : number ≡ master = eqb-true number master is in
-            inl (subst (λ (m : ℕ). staged (master_at w m) ≡ []) one
-            (own (ap (has_crashed w) one ∙ lives) (staged (master_at w number)) refl))
-        go false is there = inr there
+        (λ (there : is_in master (number ∷ coming) ≡ true).
+        ⊎_elim
+        (λ (one : number ≡ master).
+        inl (subst (λ (m : ℕ). staged (master_at w m) ≡ []) one (own (ap (has_crashed w) one ∙ lives) (staged (master_at w number)) refl)))
+        (λ (behind : Contains coming master). inr (in_where coming master behind))
+        (stands_cases number coming master (stands_in (number ∷ coming) master there)))
+        (waits master lives)
 
 -- once all have taken their turns, nothing is staged at a master that lives
 pub waits_none : (w : World) → IsWellFormed w → Waits w [] → has_applied_all w ≡ true

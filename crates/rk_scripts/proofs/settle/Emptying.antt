@@ -1,7 +1,8 @@
 -- The wire of a lane is emptied.
 use Rattle.std.proofs.Common.{◌≡◌, ◌<◌, ◌+◌, ℕ, zero, suc, List, [], ◌∷◌, ◌++◌, Option, None, Some, refl, sym, ap, subst, ◌∙◌, arith}
-use Rattle.rk_scripts.proofs.Words.{NumberMap, get, LANES, number_at, Message, Cluster, lane_at, World, Course, empty_by, forgets}
-use Rattle.rk_scripts.proofs.Words.{get_first, deliveries_left, masters_in_order, taken_off_fewer}
+use Rattle.rk_scripts.proofs.Words.{get, LANES, number_at, Cluster, lane_at, World, Course, empty_by, forgets, deliveries_left}
+use Rattle.rk_scripts.proofs.Words.{masters_in_order, taken_off_fewer}
+use Rattle.rk_inv_lanes.proofs.wires.Emptied.{oldest_there}
 use Rattle.rk_scripts.proofs.settle.Delivering.{IsOff, taking_off}
 use Rattle.rk_scripts.proofs.settle.Going.{Comes, Goes, IsAt, goes_on, still_move}
 use Rattle.rk_scripts.proofs.settle.Lanes.{IsSameBeside}
@@ -12,17 +13,6 @@ use Rattle.rk_scripts.proofs.settle.Tasks.{Task, delivers, empties}
 -- nothing is on the wire of a lane
 abbrev pub IsSilent : World → Type 0
 IsSilent w = number_at 1 w.wire ≡ None
-
--- the oldest message is there under its number
-record IsThere (messages : NumberMap Message) (number : ℕ) : Type 0 where
-  message : Message
-  found : get messages number ≡ Some message
-
-oldest_there : (messages : NumberMap Message) (sent number : ℕ) → number_at 1 (record { messages = messages; sent = sent }) ≡ Some number → IsThere messages number
-oldest_there [] sent number oldest = absurd (cc oldest)
-oldest_there (first ∷ messages) sent number oldest =
-    let same : first.0 ≡ number = cc oldest in
-    record { message = first.1; found = subst (λ (n : ℕ). get (first ∷ messages) n ≡ Some first.1) same (get_first first messages) }
 
 module _ (s : Setting) (lane : ℕ) (inside : lane < LANES) (rest : List Task) (origin : Cluster) where
   -- nothing is on the wire of the lane, the other lanes are as they were, and these tasks are left

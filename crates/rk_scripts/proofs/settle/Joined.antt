@@ -1,13 +1,12 @@
 -- The last reaches of a migration: its target is granted the tablet, pulls it all, and waits until its closing entry is applied.
-use Rattle.std.proofs.Common.{◌≡◌, ◌<◌, ◌≤◌, ◌==◌, ◌&&◌, ℕ, zero, suc, Bool, true, false, cond, not, List, [], ◌∷◌, ◌++◌, length, All}
-use Rattle.std.proofs.Common.{Option, None, Some, refl, sym, ap, subst, ◌∙◌, inl, inr, arith, ◌⊎◌, unwrap_or, eq-eqb, eqb-true, ltb-false}
-use Rattle.std.proofs.Common.{w32}
+use Rattle.std.proofs.Common.{◌≡◌, ◌<◌, ◌≤◌, ◌==◌, ◌&&◌, ℕ, zero, suc, Bool, true, false, List, [], ◌∷◌, ◌++◌, length, All, Option, None}
+use Rattle.std.proofs.Common.{Some, refl, sym, ap, subst, ◌∙◌, inl, inr, arith, ◌⊎◌, unwrap_or, eq-eqb, eqb-true, ltb-false, w32}
 use Rattle.rk_scripts.proofs.Words.{and_from, and_parts, false≢true, or_right, All-contains, All-nil, All-weaker, get, LANES, IsNumber}
 use Rattle.rk_scripts.proofs.Words.{Entry, FIRST_SIDE_SEGMENT, Message, row_of, Phase, Opening, Moving, Row, Role, Cluster, lane_at}
 use Rattle.rk_scripts.proofs.Words.{Coordinator, coordinator_step, Master, new_master, tablet_at, IsMaster, Tablet, no_tablet, Range, World}
 use Rattle.rk_scripts.proofs.Words.{master_at, tablet_in, view, Holds, bond_of, coordinator_exchange, grant_task, log_round, reach_phase}
-use Rattle.rk_scripts.proofs.Words.{reach_tasks, Course, is_joining, is_target, turn_exchange, is_on, Granted, Pulled, Joined, IsGoodLane}
-use Rattle.rk_scripts.proofs.Words.{Lasts, found_stands, Node}
+use Rattle.rk_scripts.proofs.Words.{Course, is_joining, is_target, turn_exchange, is_on, Granted, Pulled, Joined, IsGoodLane, Lasts}
+use Rattle.rk_scripts.proofs.Words.{found_stands, Node}
 use Rattle.rk_tablet_map.specs.Phase.{lineage_of}
 use Rattle.rk_world.specs.Notices.{names}
 use Rattle.rk_sound.specs.Posts.{ReadyTarget}
@@ -20,7 +19,7 @@ use Rattle.rk_scripts.proofs.settle.Exchanged.{Sends, turning}
 use Rattle.rk_scripts.proofs.settle.Going.{Comes, Goes, IsAt, goes_here, goes_on}
 use Rattle.rk_scripts.proofs.settle.Lanes.{IsSameBeside}
 use Rattle.rk_scripts.proofs.settle.Migrated.{grants_it, in_still, lives_on}
-use Rattle.rk_scripts.proofs.settle.Migrating.{AfterGranted, AfterPulled, IsIn, skips, tasks_in, unfolds}
+use Rattle.rk_scripts.proofs.settle.Migrating.{AfterGranted, AfterPulled, IsIn, skips, tasks_where, unfolds}
 use Rattle.rk_scripts.proofs.settle.Numbers.{sends_left}
 use Rattle.rk_scripts.proofs.settle.Ordering.{IsLaneNow, two_orders}
 use Rattle.rk_scripts.proofs.settle.Orders.{HasAnswered, made}
@@ -69,8 +68,7 @@ module _ (s : Setting) (lane : ℕ) (inside : lane < LANES) (origin : Cluster) (
     hands_it before course comes are beside there term role =
         goes_on s before course (IsAt course.cluster (coordinator_exchange lane topic ∷ behind)) (IsLaneNow lane origin rest (AfterGranted tablet))
         (unfolds s lane inside origin rest tablet Granted (coordinator_exchange lane topic ∷ grant_task lane tablet ∷ []) before course comes are
-        (tasks_in w lane tablet Granted row (Opening source sfrom target (Some dfrom)) there.found there.phase_is
-        ∙ ap (λ (b : Bool). cond (not b) (reach_phase lane tablet (Opening source sfrom target (Some dfrom)) Granted) []) (not_granted w good there)))
+        (tasks_where w lane tablet Granted row (Opening source sfrom target (Some dfrom)) there.found there.phase_is false (not_granted w good there)))
         (λ later comes_later at.
         goes_on s before later (IsLaneNow lane origin behind (HasAnswered w source (made topic w source ours refl on there.source_lives).master (coordinator_step w.coordinator reply).coordinator)) (IsLaneNow lane origin rest (AfterGranted tablet))
         (two_orders s lane inside origin topic behind w source ours refl on there.source_lives
@@ -122,8 +120,7 @@ module _ (s : Setting) (lane : ℕ) (inside : lane < LANES) (origin : Cluster) (
         go true is =
             let parts = and_parts ((tablet_in w target tablet).handover.term == row.term) (is_target (tablet_in w target tablet).handover.role) is in
             skips s lane inside origin rest (AfterGranted tablet) tablet Granted before course comes are beside
-            (tasks_in w lane tablet Granted row (Moving source sfrom target dfrom) there.found there.phase_is
-            ∙ ap (λ (b : Bool). cond (not b) (reach_phase lane tablet (Moving source sfrom target dfrom) Granted) []) is)
+            (tasks_where w lane tablet Granted row (Moving source sfrom target dfrom) there.found there.phase_is true is)
             (inr
             (record {
               moving = record { row = row; source = source; sfrom = sfrom; target = target; dfrom = dfrom; there = there };
@@ -133,8 +130,7 @@ module _ (s : Setting) (lane : ℕ) (inside : lane < LANES) (origin : Cluster) (
         go false is =
             goes_on s before course (IsAt course.cluster (grant_task lane tablet ∷ rest)) (IsLaneNow lane origin rest (AfterGranted tablet))
             (unfolds s lane inside origin rest tablet Granted (grant_task lane tablet ∷ []) before course comes are
-            (tasks_in w lane tablet Granted row (Moving source sfrom target dfrom) there.found there.phase_is
-            ∙ ap (λ (b : Bool). cond (not b) (reach_phase lane tablet (Moving source sfrom target dfrom) Granted) []) is))
+            (tasks_where w lane tablet Granted row (Moving source sfrom target dfrom) there.found there.phase_is false is))
             (λ later comes_later at.
             grants_it s lane inside origin rest row source sfrom target dfrom before later comes_later at.tasks_are
             (subst (IsSameBeside lane origin) (sym at.cluster_is) beside)
@@ -153,12 +149,6 @@ module _ (s : Setting) (lane : ℕ) (inside : lane < LANES) (origin : Cluster) (
         w : World
         w = lane_at course.cluster lane
 
-        tasks_by : (b : Bool) → is_at_term (tablet_in w target tablet) row.term is_joining ≡ b
-            → reach_tasks w lane tablet Pulled ≡ cond (not b) (reach_phase lane tablet (Moving source sfrom target dfrom) Pulled) []
-        tasks_by b is =
-            tasks_in w lane tablet Pulled row (Moving source sfrom target dfrom) there.found there.phase_is
-            ∙ ap (λ (c : Bool). cond (not c) (reach_phase lane tablet (Moving source sfrom target dfrom) Pulled) []) is
-
         go : ((before : Cluster) (course : Course) → Comes s before course → course.tasks ≡ reaches lane tablet Pulled ∷ rest → IsSameBeside lane origin course.cluster
             → IsIn tablet row (Moving source sfrom target dfrom) source target (lane_at course.cluster lane)
             → (tablet_in (lane_at course.cluster lane) target tablet).handover.term ≡ row.term → is_target (tablet_in (lane_at course.cluster lane) target tablet).handover.role ≡ true
@@ -167,7 +157,7 @@ module _ (s : Setting) (lane : ℕ) (inside : lane < LANES) (origin : Cluster) (
             → Goes s before course (IsLaneNow lane origin rest (AfterPulled tablet))
         go again (inr joining) =
             skips s lane inside origin rest (AfterPulled tablet) tablet Pulled before course comes are beside
-            (tasks_by true
+            (tasks_where w lane tablet Pulled row (Moving source sfrom target dfrom) there.found there.phase_is true
             (and_from ((tablet_in w target tablet).handover.term == row.term) (is_joining (tablet_in w target tablet).handover.role)
             (eq-eqb (tablet_in w target tablet).handover.term row.term term) joining))
             (inr
@@ -181,7 +171,8 @@ module _ (s : Setting) (lane : ℕ) (inside : lane < LANES) (origin : Cluster) (
             let list : List Task = reach_phase lane tablet (Moving source sfrom target dfrom) Pulled in
             goes_on s before course (IsAt course.cluster (list ++ rest)) (IsLaneNow lane origin rest (AfterPulled tablet))
             (unfolds s lane inside origin rest tablet Pulled list before course comes are
-            (tasks_by false (second_fails ((tablet_in w target tablet).handover.term == row.term) (is_joining (tablet_in w target tablet).handover.role) (ap is_joining receiving))))
+            (tasks_where w lane tablet Pulled row (Moving source sfrom target dfrom) there.found there.phase_is false
+            (second_fails ((tablet_in w target tablet).handover.term == row.term) (is_joining (tablet_in w target tablet).handover.role) (ap is_joining receiving))))
             (λ later comes_later at.
             goes_on s before later (HasRounded lane origin tablet w (sends_left course.cluster) behind) (IsLaneNow lane origin rest (AfterPulled tablet))
             (subst (λ (cluster : Cluster). Goes s before later (HasRounded lane origin tablet (lane_at cluster lane) (sends_left cluster) behind)) at.cluster_is
@@ -270,12 +261,6 @@ module _ (s : Setting) (lane : ℕ) (inside : lane < LANES) (origin : Cluster) (
         w : World
         w = lane_at course.cluster lane
 
-        tasks_by : (b : Bool) → is_at_term (tablet_in w target tablet) row.term (has_joined (master_at w target).applied) ≡ b
-            → reach_tasks w lane tablet Joined ≡ cond (not b) (reach_phase lane tablet (Moving source sfrom target dfrom) Joined) []
-        tasks_by b is =
-            tasks_in w lane tablet Joined row (Moving source sfrom target dfrom) there.found there.phase_is
-            ∙ ap (λ (c : Bool). cond (not c) (reach_phase lane tablet (Moving source sfrom target dfrom) Joined) []) is
-
         go : ((before : Cluster) (course : Course) → Comes s before course → course.tasks ≡ reaches lane tablet Joined ∷ rest → IsSameBeside lane origin course.cluster
             → IsIn tablet row (Moving source sfrom target dfrom) source target (lane_at course.cluster lane)
             → (tablet_in (lane_at course.cluster lane) target tablet).handover.term ≡ row.term → is_joining (tablet_in (lane_at course.cluster lane) target tablet).handover.role ≡ true
@@ -283,7 +268,8 @@ module _ (s : Setting) (lane : ℕ) (inside : lane < LANES) (origin : Cluster) (
             → (b : Bool) → is_at_term (tablet_in w target tablet) row.term (has_joined (master_at w target).applied) ≡ b
             → Goes s before course (IsLaneNow lane origin rest (AfterPulled tablet))
         go again true is =
-            skips s lane inside origin rest (AfterPulled tablet) tablet Joined before course comes are beside (tasks_by true is)
+            skips s lane inside origin rest (AfterPulled tablet) tablet Joined before course comes are beside
+            (tasks_where w lane tablet Joined row (Moving source sfrom target dfrom) there.found there.phase_is true is)
             (inr
             (record {
               moving = record { row = row; source = source; sfrom = sfrom; target = target; dfrom = dfrom; there = there };
@@ -293,7 +279,8 @@ module _ (s : Setting) (lane : ℕ) (inside : lane < LANES) (origin : Cluster) (
         go again false is =
             let behind : List Task = reaches lane tablet Joined ∷ rest in
             goes_on s before course (IsAt course.cluster (log_round lane target ++ behind)) (IsLaneNow lane origin rest (AfterPulled tablet))
-            (unfolds s lane inside origin rest tablet Joined (log_round lane target ++ reaches lane tablet Joined ∷ []) before course comes are (tasks_by false is))
+            (unfolds s lane inside origin rest tablet Joined (log_round lane target ++ reaches lane tablet Joined ∷ []) before course comes are
+            (tasks_where w lane tablet Joined row (Moving source sfrom target dfrom) there.found there.phase_is false is))
             (λ later comes_later at.
             goes_on s before later (HasRounded lane origin tablet w (sends_left course.cluster) behind) (IsLaneNow lane origin rest (AfterPulled tablet))
             (subst (λ (cluster : Cluster). Goes s before later (HasRounded lane origin tablet (lane_at cluster lane) (sends_left cluster) behind)) at.cluster_is

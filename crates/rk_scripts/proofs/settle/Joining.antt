@@ -1,15 +1,13 @@
 -- A client that gets a session is added in each lane first: each has room for it, since it has as many clients as there are sessions.
 use Rattle.std.proofs.Common.{◌≡◌, ◌≤◌, ◌<◌, ◌+◌, ℕ, zero, suc, false, nat_le, List, [], ◌∷◌, ◌++◌, length, Option, Some, None, refl, sym}
 use Rattle.std.proofs.Common.{subst, ◌∙◌, ⊎_elim, arith, Ok, Result, is_some, leb-false, leb-true, get_or-set_other, length-set}
-use Rattle.rk_scripts.proofs.Words.{range_with_len, cases_lt, cond-false, IsInOrder, get, insert, numbers, in_order_insert, Gave}
-use Rattle.rk_scripts.proofs.Words.{Session, new_session, Cluster, Joins, Occurrence, cluster_stepped, joined_by, lane_at, with_lane}
-use Rattle.rk_scripts.proofs.Words.{is_added, where_true, worn, Stepped, quietly, step, stepped_by, World, new_world, with_ledger, with_top}
+use Rattle.rk_scripts.proofs.Words.{range_with_len, cases_lt, cond-false, IsInOrder, get, insert, numbers, in_order_insert, Gave, Session}
+use Rattle.rk_scripts.proofs.Words.{new_session, Cluster, Joins, Occurrence, cluster_stepped, joined_by, lane_at, with_lane, is_added}
+use Rattle.rk_scripts.proofs.Words.{where_true, worn, Stepped, quietly, step, stepped_by, World, new_world, with_ledger, with_top}
 use Rattle.rk_scripts.proofs.Words.{StepError, Acted, all_acted, going_on, worn_in, code_where, first_code, is_client, client_makes}
-use Rattle.rk_scripts.proofs.Words.{in_lane, in_lanes, Limit, lane_here, Event}
+use Rattle.rk_scripts.proofs.Words.{in_lane, in_lanes, Limit, lane_here, Event, client_code, MOST_CLIENTS}
 use Rattle.rk_world.specs.Ledger.{with_client}
-use Rattle.rk_world.specs.Refusals.{MOST_CLIENTS}
 use Rattle.rk_cluster.specs.Acted.{acted_by}
-use Rattle.rk_cluster.specs.Codes.{client_code}
 use Rattle.rk_cluster.specs.declared.code.Code.TheVariants.{Taken}
 use Rattle.rk_scripts.proofs.play.Tests.{passes}
 use Rattle.rk_scripts.proofs.settle.Owning.{HasOwnClients}

@@ -1,18 +1,18 @@
 -- The reaches of a migration after its beginning: its source freezes the tablet, its target is granted it, pulls it all, and has joined.
-use Rattle.std.proofs.Common.{◌≡◌, ◌≢◌, ◌<◌, ◌+◌, ◌==◌, ℕ, zero, suc, Bool, true, false, cond, not, List, [], ◌∷◌, ◌++◌, Some, refl, sym}
-use Rattle.std.proofs.Common.{ap, subst, ◌∙◌, inl, inr, arith, ◌⊎◌, eq-eqb, eqb-true, true≢false}
+use Rattle.std.proofs.Common.{◌≡◌, ◌≢◌, ◌<◌, ◌+◌, ◌==◌, ℕ, zero, suc, Bool, true, false, not, List, [], ◌∷◌, ◌++◌, Some, refl, sym, ap}
+use Rattle.std.proofs.Common.{subst, ◌∙◌, inl, inr, arith, ◌⊎◌, eq-eqb, eqb-true, true≢false}
 use Rattle.rk_scripts.proofs.Words.{list_any, and_from, and_parts, cond-true, false≢true, LANES, Entry, Message, row_of, Phase, Opening}
-use Rattle.rk_scripts.proofs.Words.{Moving, Row, Role, Cluster, lane_at, Master, is_settled, staged, tablet_at, touches}
-use Rattle.rk_scripts.proofs.Words.{is_frozen, World, has_crashed, master_at, tablet_in, Holds, MovingSource, bond_of, post_of}
-use Rattle.rk_scripts.proofs.Words.{coordinator_exchange, freeze_by, grant_task, log_round, reach_phase, Course, is_source_frozen}
-use Rattle.rk_scripts.proofs.Words.{is_target, is_on, Frozen, IsGoodLane, Lasts, Node}
+use Rattle.rk_scripts.proofs.Words.{Moving, Row, Role, Cluster, lane_at, Master, is_settled, staged, tablet_at, touches, is_frozen, World}
+use Rattle.rk_scripts.proofs.Words.{has_crashed, master_at, tablet_in, Holds, MovingSource, bond_of, post_of, coordinator_exchange}
+use Rattle.rk_scripts.proofs.Words.{freeze_by, grant_task, log_round, Course, is_source_frozen, is_target, is_on, Frozen, IsGoodLane, Lasts}
+use Rattle.rk_scripts.proofs.Words.{Node}
 use Rattle.rk_scripts.proofs.settle.Effects.{at_term_closes, close_off, close_on, close_sent, close_term, closes, fitted, grant_off}
 use Rattle.rk_scripts.proofs.settle.Effects.{grant_on, grant_sent, grants, is_granted}
 use Rattle.rk_scripts.proofs.settle.ExchangeTasks.{close_topic, freezes, grant_topic, log_topic, reaches}
 use Rattle.rk_scripts.proofs.settle.Exchanged.{Sends}
 use Rattle.rk_scripts.proofs.settle.Going.{Comes, Goes, IsAt, goes_here, goes_on, still_move}
 use Rattle.rk_scripts.proofs.settle.Lanes.{IsSameBeside}
-use Rattle.rk_scripts.proofs.settle.Migrating.{AfterFrozen, AfterGranted, IsClosed, IsIn, skips, tasks_in, unfolds}
+use Rattle.rk_scripts.proofs.settle.Migrating.{AfterFrozen, AfterGranted, IsBegun, IsClosed, IsIn, skips, tasks_where, unfolds}
 use Rattle.rk_scripts.proofs.settle.Numbers.{sends_left}
 use Rattle.rk_scripts.proofs.settle.Ordering.{IsLaneNow, one_order}
 use Rattle.rk_scripts.proofs.settle.Orders.{HasChanged, made}
@@ -31,6 +31,12 @@ lives_on w v m same living = ap (λ (crashed : List ℕ). list_any (λ (c : ℕ)
 pub in_still : (tablet : ℕ) (row : Row) (phase : Phase) (source target : ℕ) (w v : World) → v.coordinator ≡ w.coordinator → v.crashed ≡ w.crashed → IsIn tablet row phase source target w
     → IsIn tablet row phase source target v
 in_still tablet row phase source target w v same crashed there = grind (arith, row_of, lives_on)
+
+-- and so is a migration that has begun
+abbrev begun_still : (tablet : ℕ) (w v : World) → v.coordinator ≡ w.coordinator → v.crashed ≡ w.crashed → IsBegun tablet w → IsBegun tablet v
+begun_still tablet w v same crashed it =
+    let there = in_still tablet it.row (Opening it.source it.sfrom it.target (Some it.dfrom)) it.source it.target w v same crashed it.there in
+    record { row = it.row; source = it.source; sfrom = it.sfrom; target = it.target; dfrom = it.dfrom; there = there }
 
 is_frozen_role : (role : Role) → is_frozen role ≡ true → role ≡ Role.Frozen
 is_frozen_role Role.Frozen is = refl
@@ -103,14 +109,7 @@ module _ (s : Setting) (lane : ℕ) (inside : lane < LANES) (origin : Cluster) (
             let on = done.lane_now.now in
             again before last comes_last done.lane_now.left done.lane_now.beside
             (record {
-              begun = record {
-                row = closed.begun.row;
-                source = closed.begun.source;
-                sfrom = closed.begun.sfrom;
-                target = closed.begun.target;
-                dfrom = closed.begun.dfrom;
-                there = in_still tablet closed.begun.row _ closed.begun.source closed.begun.target w (lane_at last.cluster lane) on.coordinator on.crashed closed.begun.there;
-              };
+              begun = begun_still tablet w (lane_at last.cluster lane) on.coordinator on.crashed closed.begun;
               term = (on.each closed.begun.source).term ∙ closed.term;
             })
             source_is named (omega (arith, few, done.fewer))))
@@ -141,8 +140,7 @@ module _ (s : Setting) (lane : ℕ) (inside : lane < LANES) (origin : Cluster) (
         go true is =
             let parts = and_parts (is_frozen (tablet_in w source tablet).handover.role) ((tablet_in w source tablet).handover.term == row.term) is in
             skips s lane inside origin rest (AfterFrozen tablet) tablet Frozen before course comes are beside
-            (tasks_in w lane tablet Frozen row (Opening source sfrom target (Some dfrom)) there.found there.phase_is
-            ∙ ap (λ (b : Bool). cond (not b) (reach_phase lane tablet (Opening source sfrom target (Some dfrom)) Frozen) []) is)
+            (tasks_where w lane tablet Frozen row (Opening source sfrom target (Some dfrom)) there.found there.phase_is true is)
             (inr
             (inl
             (record {
@@ -156,8 +154,7 @@ module _ (s : Setting) (lane : ℕ) (inside : lane < LANES) (origin : Cluster) (
             let behind : List Task = freezes lane tablet source ∷ rest in
             goes_on s before course (IsAt course.cluster (coordinator_exchange lane (close_topic tablet) ∷ behind)) (IsLaneNow lane origin rest (AfterFrozen tablet))
             (unfolds s lane inside origin rest tablet Frozen (coordinator_exchange lane (close_topic tablet) ∷ freezes lane tablet source ∷ []) before course comes are
-            (tasks_in w lane tablet Frozen row (Opening source sfrom target (Some dfrom)) there.found there.phase_is
-            ∙ ap (λ (b : Bool). cond (not b) (reach_phase lane tablet (Opening source sfrom target (Some dfrom)) Frozen) []) is))
+            (tasks_where w lane tablet Frozen row (Opening source sfrom target (Some dfrom)) there.found there.phase_is false is))
             (λ later comes_later at.
             goes_on s before later (IsLaneNow lane origin behind (HasChanged w source (made (close_topic tablet) w source ours refl on there.source_lives).master)) (IsLaneNow lane origin rest (AfterFrozen tablet))
             (one_order s lane inside origin (close_topic tablet) behind w source ours refl on there.source_lives
@@ -167,14 +164,8 @@ module _ (s : Setting) (lane : ℕ) (inside : lane < LANES) (origin : Cluster) (
             (λ end comes_end done.
             freezes_within tablet (sends_left end.cluster + 1) source before end comes_end done.left done.beside
             (record {
-              begun = record {
-                row = row;
-                source = source;
-                sfrom = sfrom;
-                target = target;
-                dfrom = dfrom;
-                there = in_still tablet row (Opening source sfrom target (Some dfrom)) source target w (lane_at end.cluster lane) done.now.coordinator done.now.crashed there;
-              };
+              begun = begun_still tablet w (lane_at end.cluster lane) done.now.coordinator done.now.crashed
+                  (record { row = row; source = source; sfrom = sfrom; target = target; dfrom = dfrom; there = there });
               term = ap (λ (it : Master). (tablet_at it tablet).handover.term) done.now.here
                   ∙ close_term s.masters lane w good row there.found source sfrom target dfrom there.phase_is there.source_lives;
             })
@@ -205,20 +196,15 @@ module _ (s : Setting) (lane : ℕ) (inside : lane < LANES) (origin : Cluster) (
         before course comes are beside refl)
         (λ end comes_end done.
         let has = is_granted s.masters lane w good row there.found source sfrom target dfrom there.phase_is there.target_lives in
+        let there_now =
+        in_still tablet row (Moving source sfrom target dfrom) source target w (lane_at end.cluster lane) done.now.coordinator done.now.crashed there in
         goes_here s before end (IsLaneNow lane origin rest (AfterGranted tablet)) comes_end
         (record {
           left = done.left;
           beside = done.beside;
           now = inr
               (record {
-                moving = record {
-                  row = row;
-                  source = source;
-                  sfrom = sfrom;
-                  target = target;
-                  dfrom = dfrom;
-                  there = in_still tablet row (Moving source sfrom target dfrom) source target w (lane_at end.cluster lane) done.now.coordinator done.now.crashed there;
-                };
+                moving = record { row = row; source = source; sfrom = sfrom; target = target; dfrom = dfrom; there = there_now };
                 term = ap (λ (it : Master). (tablet_at it tablet).handover.term) done.now.here ∙ has.term;
                 role = ap (λ (it : Master). is_target (tablet_at it tablet).handover.role) done.now.here ∙ has.role;
               });

@@ -109,6 +109,11 @@ pub tasks_in : (w : World) (lane tablet : ℕ) (reach : Reach) (row : Row) (phas
     → reach_tasks w lane tablet reach ≡ cond (not (is_at_reach w row phase reach)) (reach_phase lane tablet phase reach) []
 tasks_in w lane tablet reach row phase found is = grind (arith, reach_row, reach_phase)
 
+pub tasks_where : (w : World) (lane tablet : ℕ) (reach : Reach) (row : Row) (phase : Phase) → row_of w.coordinator.rows tablet ≡ Some row → row.phase ≡ phase
+    → (b : Bool) → is_at_reach w row phase reach ≡ b → reach_tasks w lane tablet reach ≡ cond (not b) (reach_phase lane tablet phase reach) []
+tasks_where w lane tablet reach row phase found is b at =
+    tasks_in w lane tablet reach row phase found is ∙ ap (λ (c : Bool). cond (not c) (reach_phase lane tablet phase reach) []) at
+
 module _ (s : Setting) (lane : ℕ) (inside : lane < LANES) (origin : Cluster) (rest : List Task) where
   pub unfolds : (tablet : ℕ) (reach : Reach) (list : List Task) (before : Cluster) (course : Course) → Comes s before course → course.tasks ≡ reaches lane tablet reach ∷ rest
       → reach_tasks (lane_at course.cluster lane) lane tablet reach ≡ list → Goes s before course (IsAt course.cluster (list ++ rest))

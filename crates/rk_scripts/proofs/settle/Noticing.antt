@@ -1,10 +1,10 @@
 -- Whether a lane has a master that has crashed and was not noticed; once one is noticed it has none.
-use Rattle.std.proofs.Common.{◌≡◌, ◌==◌, ◌||◌, ◌&&◌, ◌≤◌, ◌<◌, ◌+◌, ℕ, zero, suc, Bool, true, false, cond, not, List, [], ◌∷◌, find, Option}
-use Rattle.std.proofs.Common.{Some, None, refl, sym, ap, subst, ◌∙◌, arith, All, option_map, eqb-true, true≢false}
-use Rattle.rk_scripts.proofs.Words.{list_any, range_with_len, option_or, or_left, or_right, All-head, All-tail, StepError, Called}
-use Rattle.rk_scripts.proofs.Words.{is_noticed, IsWellFormed, IsMaster, refusal, worn, world_stepped, step, stepped_by, World, has_crashed}
-use Rattle.rk_scripts.proofs.Words.{find_passes, AllNoticed, Event}
-use Rattle.std.proofs.lemmas.Bool.{eqb-false}
+use Rattle.std.proofs.Common.{◌≡◌, ◌==◌, ◌&&◌, ◌≤◌, ◌<◌, ◌+◌, ℕ, Bool, true, false, cond, not, List, [], find, Option, Some, None, refl}
+use Rattle.std.proofs.Common.{sym, ap, subst, ◌∙◌, arith, All, option_map, eqb-true, true≢false, ◌-◌, Contains, eq-eqb}
+use Rattle.rk_scripts.proofs.Words.{list_any, range_with_len, option_or, StepError, Called, is_noticed, IsWellFormed, IsMaster, refusal}
+use Rattle.rk_scripts.proofs.Words.{worn, world_stepped, step, stepped_by, World, has_crashed, find_passes, AllNoticed, Event}
+use Rattle.rk_scripts.proofs.Words.{All-contains, get_or-range_with_len, length-range_with_len}
+use Rattle.std.proofs.lemmas.List.Folds.{Any-from_list_any, list_any_at}
 use Rattle.rk_runs.proofs.duties.Noticing.{all_noticed}
 use Rattle.rk_inv_lanes.proofs.late.Tests.{none_passes}
 
@@ -14,27 +14,27 @@ use Rattle.rk_inv_lanes.proofs.late.Tests.{none_passes}
 abbrev pub is_in : ℕ → List ℕ → Bool
 is_in number list = list_any (λ (other : ℕ). other == number) list
 
+-- it stands there, and what stands there does so
+pub stands_in : (list : List ℕ) (number : ℕ) → is_in number list ≡ true → Contains list number
+stands_in list number there =
+    let found = Any-from_list_any (λ (other : ℕ). other == number) list there in
+    subst (Contains list) (eqb-true found.1 number found.4) (found.0, found.2, found.3)
+
+pub in_where : (list : List ℕ) (number : ℕ) → Contains list number → is_in number list ≡ true
+in_where list number at =
+    list_any_at (λ (other : ℕ). other == number) list at.0 number at.1 (ap (λ (other : ℕ). other == number) at.2 ∙ eq-eqb number number refl)
+
 -- what all have, one has that stands among them
 pub one_of : (P : ℕ → Type 0) (list : List ℕ) (number : ℕ) → All P list → is_in number list ≡ true → P number
-one_of P [] number all there = absurd (cc there)
-one_of P (first ∷ rest) number all there = go (one_of P rest number (All-tail P first rest all)) (first == number) refl there
-  where
-    go : (is_in number rest ≡ true → P number) → (b : Bool) → (first == number) ≡ b → (b || is_in number rest) ≡ true → P number
-    go later true is in_all = subst P (eqb-true first number is) (All-head P first rest all)
-    go later false is in_all = later in_all
+one_of P list number all there = All-contains P list number all (stands_in list number there)
 
 -- the numbers of a range stand in it
 pub in_range : (start count number : ℕ) → start ≤ number → number < start + count → is_in number (range_with_len start count) ≡ true
-in_range start zero number first before = absurd (omega (arith, first, before))
-in_range start (suc count) number first before =
-    go (λ after. in_range (start + 1) count number after (omega (arith, before))) (start == number) refl
-  where
-    go : (start + 1 ≤ number → is_in number (range_with_len (start + 1) count) ≡ true) → (b : Bool) → (start == number) ≡ b
-        → (start == number || is_in number (range_with_len (start + 1) count)) ≡ true
-    go later true is = or_left (start == number) (is_in number (range_with_len (start + 1) count)) is
-    go later false is =
-        let apart = eqb-false start number is in
-        or_right (start == number) (is_in number (range_with_len (start + 1) count)) (later (omega (arith, first, apart)))
+in_range start count number first before =
+    let within : number - start < count = omega (arith, first, before) in
+    let same : start + (number - start) ≡ number = omega (arith, first) in
+    in_where (range_with_len start count) number
+    (number - start, omega (arith, within, length-range_with_len start count), get_or-range_with_len start count (number - start) number within ∙ same)
 
 -- ---- a lane
 

@@ -1,17 +1,15 @@
 -- The clients of a lane's ledger have the same numbers whatever happens there, but for a client that is added.
-use Rattle.std.proofs.Common.{arith, subst, ◌≡◌, ℕ, true, Option, Some, None, refl, ap, ◌∙◌, Ok}
-use Rattle.rk_scripts.proofs.Words.{IsInOrder, NumberMap, numbers, Call, StepError, Event, LastCall, Called, Visited, accept, accept_by}
-use Rattle.rk_scripts.proofs.Words.{ask, ask_by, Session, coordinator_step, is_added, master_step, master_turn, accept_refusal, ask_refusal}
-use Rattle.rk_scripts.proofs.Words.{refusal, where_true, world_stepped, world_visited, seen_in, step, stepped_by, worked_at, Worked, World}
-use Rattle.rk_scripts.proofs.Words.{master_at}
-use Rattle.std.proofs.lemmas.Bool.{cond_both}
+use Rattle.std.proofs.Common.{arith, subst, ◌≡◌, ℕ, true, Option, Some, None, refl, ap, ◌∙◌}
+use Rattle.rk_scripts.proofs.Words.{IsInOrder, NumberMap, numbers, Call, StepError, Event, LastCall, Called, accept, ask, ask_by, Session}
+use Rattle.rk_scripts.proofs.Words.{coordinator_step, is_added, master_step, master_turn, ask_refusal, refusal, world_stepped}
+use Rattle.rk_scripts.proofs.Words.{world_visited, seen_in, step, stepped_by, worked_at, Worked, World, master_at, cond_both}
 use Rattle.rk_world.specs.Calls.{is_asked, ledger_asked}
 use Rattle.rk_world.specs.Ledger.{Ledger, with_asked}
 use Rattle.rk_inv_wellformed.proofs.lanes.Asks.{clients_requested}
 use Rattle.rk_inv_wellformed.proofs.lanes.Ledgers.{clients_rebuilt, clients_served}
 use Rattle.rk_inv_lanes.proofs.lanes.Events.{Covers, event_covered}
 use Rattle.rk_inv_lanes.proofs.lanes.Visits.{accept_covered, asking_covered}
-use Rattle.rk_scripts.proofs.settle.SameNumbers.{numbers_kept}
+use Rattle.rk_inv_wellformed.proofs.maps.Numbered.{numbers_stay}
 
 -- an event adds no client
 abbrev pub AddsNobody : Event → Type 0
@@ -62,14 +60,6 @@ module _ (w : World) (session : Session) where
   ask_not_refused : ask_refusal w session ≡ None → is_added w.ledger session.client ≡ true
   ask_not_refused none = grind (arith, is_added)
 
-  -- who takes its turn was added
-  pub asker_added : (visited : Visited) → ask w session ≡ Ok visited → is_added w.ledger session.client ≡ true
-  asker_added visited is = grind (arith, ask_refusal, ask_by, is_added, ask_not_refused)
-
-  -- and so was who takes an answer
-  pub taker_added : (number : ℕ) (visited : Visited) → accept w number session ≡ Ok visited → is_added w.ledger session.client ≡ true
-  taker_added number visited is = grind (arith, accept_refusal, accept_by, is_added, where_true)
-
   -- ---- their turns and answers
 
   module _ (order : IsInOrder w.ledger.clients) where
@@ -77,7 +67,7 @@ module _ (w : World) (session : Session) where
     same_asked call added =
         cond_both (is_asked w.ledger session call) w.ledger (with_asked w.ledger session.client (record { call = call; seen = session.seen }))
         (λ (ledger : Ledger). numbers ledger.clients ≡ numbers w.ledger.clients) (λ e. refl)
-        (λ e. numbers_kept w.ledger.clients session.client (Some (record { call = call; seen = session.seen })) order added)
+        (λ e. numbers_stay w.ledger.clients session.client (Some (record { call = call; seen = session.seen })) order added)
 
     -- a client's turn
     pub same_turn : HasSameClients w (world_visited w (ask w session))

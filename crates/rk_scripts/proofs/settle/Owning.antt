@@ -5,11 +5,11 @@ use Rattle.std.proofs.Common.{Result, is_some}
 use Rattle.rk_scripts.proofs.Words.{All-head, All-tail, IsInOrder, numbers, in_order_insert, Visited, Session, Cluster, Happens, Joins}
 use Rattle.rk_scripts.proofs.Words.{Occurrence, cluster_after, cluster_stepped, cluster_visited, lane_at, with_lane, with_session}
 use Rattle.rk_scripts.proofs.Words.{world_stepped, world_visited, Stepped, World, StepError, Acted, acted, all_acted, going_on, is_client}
-use Rattle.rk_scripts.proofs.Words.{AreAdded, EachLane, each_lane}
-use Rattle.std.proofs.lemmas.List.{get_or_past}
+use Rattle.rk_scripts.proofs.Words.{AreAdded, EachLane, each_lane, get_or_past}
 use Rattle.rk_settle.proofs.Occurred.{acted_is}
 use Rattle.rk_scripts.proofs.settle.OwnClients.{AddsNobody, HasSameClients, same_stepped, same_turn}
-use Rattle.rk_scripts.proofs.settle.SameNumbers.{found_alike, in_order_alike, numbers_kept}
+use Rattle.rk_scripts.proofs.settle.SameNumbers.{found_alike, in_order_alike}
+use Rattle.rk_inv_wellformed.proofs.maps.Numbered.{numbers_stay}
 
 -- sessions stand in order, and the clients of each lane are those that have one
 pub record HasOwnClients (cluster : Cluster) : Type 0 where
@@ -38,7 +38,7 @@ module _ (cluster : Cluster) (own : HasOwnClients cluster) where
 
   -- a session is another
   session_own : (client : ℕ) (session : Session) → is_client cluster client ≡ true → HasOwnClients (with_session cluster client session)
-  session_own client session known = grind (arith, in_order_insert, numbers_kept)
+  session_own client session known = grind (arith, in_order_insert, numbers_stay)
 
   stepped_own : (lane : ℕ) (result : Result Stepped StepError) → HasSameClients (lane_at cluster lane) (world_stepped (lane_at cluster lane) result)
       → HasOwnClients (cluster_stepped cluster lane result)

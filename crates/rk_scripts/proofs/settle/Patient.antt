@@ -1,13 +1,15 @@
 -- What tablets of a master wait for has not come yet: where one closes something of it is staged, and where a target has all but its closing
 -- entry not every side segment of it is stored. Here so it stays at the small changes of a master.
-use Rattle.std.proofs.Common.{◌≡◌, ◌≤◌, ◌+◌, ◌==◌, ◌||◌, ◌&&◌, ℕ, zero, suc, Bool, true, false, cond, List, [], ◌∷◌, ◌++◌, length, Option}
-use Rattle.std.proofs.Common.{None, Some, refl, sym, ap, subst, arith, drop, get_or, unwrap_or, option_map}
+use Rattle.std.proofs.Common.{◌≡◌, ◌≤◌, ◌+◌, ◌==◌, ℕ, zero, suc, Bool, true, false, cond, List, [], ◌∷◌, ◌++◌, length, Option, None, Some}
+use Rattle.std.proofs.Common.{refl, sym, ◌∙◌, subst, arith, drop, get_or, unwrap_or, option_map}
+use Rattle.std.proofs.lemmas.List.Folds.{list_all_at, list_any-append}
+use Rattle.rk_inv_base.proofs.Words.{or_left}
+use Rattle.rk_inv_lanes.proofs.applied.Logs.{fails_at}
 use Rattle.rk_scripts.proofs.Words.{list_all, list_any, option_map_or, cases_eq, false≢true, in_order_changed, in_order_insert, IsInOrder}
-use Rattle.rk_scripts.proofs.Words.{changed_each, get, Held, Entry, FIRST_SIDE_SEGMENT, Known, is_whole, known_length, Log}
-use Rattle.rk_scripts.proofs.Words.{is_side_stored, numbered, segment_of, NumberedBytes, Role, Master, is_settled, staged, tablet_at}
-use Rattle.rk_scripts.proofs.Words.{touches, with_all, with_appended, with_side_segment, with_tablet, as_entries, Tablet, no_tablet}
-use Rattle.rk_scripts.proofs.Words.{is_sealed_stored, kept_by_fold, found_changed}
-use Rattle.std.proofs.lemmas.Bool.{lt-leb}
+use Rattle.rk_scripts.proofs.Words.{changed_each, get, Held, Entry, FIRST_SIDE_SEGMENT, Known, is_whole, known_length, Log, is_side_stored}
+use Rattle.rk_scripts.proofs.Words.{numbered, segment_of, NumberedBytes, Role, Master, is_settled, staged, tablet_at, touches, with_all}
+use Rattle.rk_scripts.proofs.Words.{with_appended, with_side_segment, with_tablet, as_entries, Tablet, no_tablet, is_sealed_stored}
+use Rattle.rk_scripts.proofs.Words.{kept_by_fold, found_changed, lt-leb}
 use Rattle.rk_entry.specs.Entries.{spelled_all}
 use Rattle.rk_inv_base.proofs.logs.Segments.{numbered_past}
 pub use Rattle.rk_inv_base.proofs.views.Masters.{tablet_apart as at_other, tablet_here as at_put}
@@ -82,17 +84,8 @@ pub record WaitsOn (before after : Master) : Type 0 where
 
 -- not all pass still
 some_fails : (test other : ℕ → Bool) (list : List ℕ) → ((n : ℕ) → test n ≡ false → other n ≡ false) → list_all test list ≡ false → list_all other list ≡ false
-some_fails test other [] each fails = fails
-some_fails test other (n ∷ list) each fails = go (test n) refl fails (some_fails test other list each)
-  where
-    behind : (b : Bool) → list_all other list ≡ false → (b && list_all other list) ≡ false
-    behind true is = is
-    behind false is = refl
-
-    go : (b : Bool) → test n ≡ b → (b && list_all test list) ≡ false → (list_all test list ≡ false → list_all other list ≡ false)
-        → (other n && list_all other list) ≡ false
-    go true is fails later = behind (other n) (later fails)
-    go false is fails later = ap (λ (b : Bool). b && list_all other list) (each n is)
+some_fails test other list each fails =
+    let at = fails_at test list 0 fails in list_all_at other list at.place 0 at.within (each (get_or list at.place 0) at.fails)
 
 pub waits_on : (before after : Master) → WaitsOn before after → (tablet : Tablet) (role : Role) → WaitsIn before tablet role → WaitsIn after tablet role
 waits_on before after on tablet Role.Closing waits = on.staged tablet.handover.range waits
@@ -109,12 +102,7 @@ patient_on before after on same patient = grind (arith, no_tablet, waits_on, tab
 -- ---- entries
 
 any_more : (test : Entry → Bool) (list more : List Entry) → list_any test list ≡ true → list_any test (list ++ more) ≡ true
-any_more test [] more none = absurd (false≢true none)
-any_more test (entry ∷ list) more some = go (test entry) some (any_more test list more)
-  where
-    go : (b : Bool) → (b || list_any test list) ≡ true → (list_any test list ≡ true → list_any test (list ++ more) ≡ true) → (b || list_any test (list ++ more)) ≡ true
-    go true is later = refl
-    go false is later = later is
+any_more test list more some = list_any-append test list more ∙ or_left (list_any test list) (list_any test more) some
 
 any_past : (test : Entry → Bool) (count : ℕ) (list more : List Entry) → list_any test (drop count list) ≡ true → list_any test (drop count (list ++ more)) ≡ true
 any_past test zero list more some = any_more test list more some

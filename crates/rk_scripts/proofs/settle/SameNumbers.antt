@@ -1,10 +1,8 @@
 -- Maps by number that have the same numbers, whatever stands under these.
-use Rattle.std.proofs.Common.{arith, ◌≡◌, ◌&&◌, ℕ, Bool, true, List, [], ◌∷◌, T, length, Option, None, Some, refl, sym, ap, subst, ◌∙◌}
-use Rattle.std.proofs.Common.{⊎_elim, is_some, is_lt, nat_cmp}
-use Rattle.rk_scripts.proofs.Words.{list_any, eq_by_cmp, below_all, cases_eq, length-map, IsInOrder, NumberMap, get, insert, numbers}
-use Rattle.rk_scripts.proofs.Words.{get_other, get_same, in_order_insert}
+use Rattle.std.proofs.Common.{arith, ◌≡◌, ◌&&◌, ℕ, Bool, true, List, [], ◌∷◌, T, length, refl, sym, ap, subst, ◌∙◌, ⊎_elim, is_some, is_lt}
+use Rattle.std.proofs.Common.{nat_cmp}
+use Rattle.rk_scripts.proofs.Words.{list_any, eq_by_cmp, below_all, length-map, IsInOrder, NumberMap, get, insert, numbers}
 use Rattle.std.specs.FinMap.Entries.{by_order, is_some-find, is_sorted}
-use Rattle.rk_types.proofs.NumberMaps.{same_map}
 
 -- a number in its place among rising ones, once
 abbrev with_number : ℕ → List ℕ → List ℕ
@@ -34,18 +32,6 @@ module _ {X : Type 0} where
   rising_is : (things : NumberMap X) → is_sorted nat_cmp things ≡ are_rising (numbers things)
   rising_is [] = refl
   rising_is (first ∷ rest) = λ i. below_is first.0 rest i && rising_is rest i
-
-  -- another thing under a number that is there
-  pub numbers_kept : (things : NumberMap X) (number : ℕ) (thing : X) → IsInOrder things → is_some (get things number) ≡ true → numbers (insert things number thing) ≡ numbers things
-  numbers_kept things number thing order there = go (get things number) refl there
-    where
-      go : (found : Option X) → get things number ≡ found → is_some found ≡ true → numbers (insert things number thing) ≡ numbers things
-      go None is some = absurd (cc some)
-      go (Some known) is some =
-          numbers_insert things number thing ∙ sym (numbers_insert things number known) ∙ ap (λ (all : NumberMap X). numbers all)
-          (same_map (insert things number known) things (in_order_insert things number known order) order
-          (λ q. ⊎_elim (λ (same : q ≡ number). get_same things number known q same ∙ sym (ap (get things) same ∙ is))
-          (λ (apart : q ≡ number → ⊥). get_other things number known q apart) (cases_eq q number)))
 
 module _ {X Y : Type 0} (things : NumberMap X) (others : NumberMap Y) (same : numbers things ≡ numbers others) where
   -- who is in one is in the other

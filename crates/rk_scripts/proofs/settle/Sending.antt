@@ -1,18 +1,19 @@
 -- Who sends on its turn in a migration: a target that pulls, and one that has all but is not done with its closing entry.
-use Rattle.std.proofs.Common.{◌≡◌, ◌<◌, ◌≤◌, ◌+◌, ◌-◌, ◌==◌, ◌&&◌, ◌++◌, ℕ, zero, suc, Bool, true, false, cond, not, List, [], ◌∷◌, length}
-use Rattle.std.proofs.Common.{get_or, find, map, All, Option, None, Some, is_some, refl, sym, ap, subst, ◌∙◌, ⊎_elim, arith, length-append}
-use Rattle.std.proofs.Common.{option_map, nat_cmp, eq-eqb}
-use Rattle.rk_scripts.proofs.Words.{list_all, range_with_len, option_map_or, option_or, eq_by_cmp, cases_lt, false≢true, length-map}
-use Rattle.rk_scripts.proofs.Words.{All-head, All-tail, get_or-range_with_len, length-range_with_len, none-some, NumberMap, get}
-use Rattle.rk_scripts.proofs.Words.{FIRST_SIDE_SEGMENT, NumberedBytes, Known, is_whole, is_side_stored, known_of, numbered, segment_of}
-use Rattle.rk_scripts.proofs.Words.{segments, side_segments, cut, Message, Role, Gave, Master, duties, master_turn, tablet_duty}
-use Rattle.rk_scripts.proofs.Words.{with_outstanding, refusal, where_true, filled, world_stepped, happened, ledger_after, stepped_by}
-use Rattle.rk_scripts.proofs.Words.{Tablet, no_tablet, is_sealed_stored, World, has_crashed, master_at, tablet_in, StepError, sent_all}
-use Rattle.rk_scripts.proofs.Words.{Node, Event}
+use Rattle.std.proofs.Common.{◌≡◌, ◌<◌, ◌≤◌, ◌+◌, ◌-◌, ◌==◌, ◌++◌, ℕ, Bool, true, false, cond, not, List, [], ◌∷◌, length, get_or, find}
+use Rattle.std.proofs.Common.{map, All, Option, None, Some, is_some, refl, sym, ap, subst, ◌∙◌, ⊎_elim, arith, length-append, option_map}
+use Rattle.std.proofs.Common.{nat_cmp}
+use Rattle.rk_scripts.proofs.Words.{list_all, range_with_len, option_map_or, option_or, eq_by_cmp, false≢true, length-map}
+use Rattle.rk_scripts.proofs.Words.{get_or-range_with_len, length-range_with_len, none-some, NumberMap, get, FIRST_SIDE_SEGMENT}
+use Rattle.rk_scripts.proofs.Words.{NumberedBytes, Known, is_whole, is_side_stored, known_of, numbered, segment_of, segments, side_segments}
+use Rattle.rk_scripts.proofs.Words.{cut, Message, Role, Gave, Master, duties, master_turn, tablet_duty, with_outstanding, refusal}
+use Rattle.rk_scripts.proofs.Words.{where_true, filled, world_stepped, happened, ledger_after, stepped_by, Tablet, no_tablet}
+use Rattle.rk_scripts.proofs.Words.{is_sealed_stored, World, has_crashed, master_at, tablet_in, StepError, sent_all, Node, Event}
 use Rattle.std.proofs.lemmas.List.Folds.{length-flat_map-take}
 use Rattle.rk_log.specs.Log.{missing, pending}
 use Rattle.rk_log.specs.Piece.{PlacedBytes}
 use Rattle.rk_world.specs.MasterTurn.{append_of, appends, pull_of, want_of}
+use Rattle.rk_inv_lanes.proofs.applied.Logs.{fails_at}
+use Rattle.rk_inv_base.proofs.logs.Segments.{numbered_at}
 use Rattle.rk_scripts.proofs.settle.Exchanged.{Sends}
 
 -- ---- a turn that sends
@@ -65,23 +66,6 @@ receiving_sends w m number living is = grind (arith, turn_sends, length-append, 
 
 -- ---- a target whose side segments are not all stored
 
--- an element that fails a test
-record FailsAt {X : Type 0} (test : X → Bool) (list : List X) (none : X) : Type 0 where
-  place : ℕ
-  within : place < length list
-  fails : test (get_or list place none) ≡ false
-
-fails_at : {X : Type 0} (test : X → Bool) (list : List X) (none : X) → list_all test list ≡ false → FailsAt test list none
-fails_at test [] none never = absurd (false≢true (sym never))
-fails_at test (x ∷ list) none fails = by (test x) refl fails (fails_at test list none)
-  where
-    by : (passes : Bool) → test x ≡ passes → (passes && list_all test list) ≡ false → (list_all test list ≡ false → FailsAt test list none)
-        → FailsAt test (x ∷ list) none
-    by false is fails behind = record { place = zero; within = omega arith; fails = is }
-    by true is fails behind =
-        let rest = behind fails in
-        record { place = suc rest.place; within = omega (arith, rest.within); fails = rest.fails }
-
 -- a segment that is found, and passes, makes some one found
 one_found : (test : NumberedBytes → Bool) (list : List NumberedBytes) (number : ℕ) (segment : NumberedBytes) → segment_of number list ≡ Some segment → test segment ≡ true
     → is_some (find test list) ≡ true
@@ -105,16 +89,8 @@ found_behind test (x ∷ list) more some = grind (arith, (found_behind test list
 
 -- one that is there is found
 there_found : (sides : List (List ℕ)) (first number : ℕ) → first ≤ number → number < first + length sides → is_some (segment_of number (numbered first sides)) ≡ true
-there_found [] first number low high = absurd (omega (arith, low, high))
-there_found (bytes ∷ sides) first number low high = go (first == number) refl (λ above. there_found sides (suc first) number above (omega (arith, high)))
-  where
-    go : (b : Bool) → (first == number) ≡ b → (suc first ≤ number → is_some (segment_of number (numbered (suc first) sides)) ≡ true)
-        → is_some (cond b (Some (record { number = first; bytes = bytes })) (segment_of number (numbered (suc first) sides))) ≡ true
-    go true here later = refl
-    go false apart later = later
-        (⊎_elim (λ (more : first < number). omega (arith, more))
-        (λ (less : number ≤ first). let same : first ≡ number = omega (arith, low, less) in absurd (false≢true (sym apart ∙ eq-eqb first number same)))
-        (cases_lt first number))
+there_found sides first number low high =
+    ap (λ (found : Option NumberedBytes). is_some found) (numbered_at number first (number - first) sides (omega (arith, low)) (omega (arith, low, high)))
 
 module _ (master : Master) (number : ℕ) (backed : 1 ≤ length master.log.known) where
   -- not stored, it is sent on
@@ -165,16 +141,9 @@ module _ (master : Master) (number : ℕ) (backed : 1 ≤ length master.log.know
 
 sealed_sent : (master : Master) (sealed : List ℕ) → 1 ≤ length master.log.known → All (λ n. FIRST_SIDE_SEGMENT ≤ n) sealed
     → All (λ n. n < FIRST_SIDE_SEGMENT + length master.log.sides) sealed → list_all (is_side_stored master.log) sealed ≡ false → 1 ≤ length (appends master)
-sealed_sent master [] backed low high never = absurd (false≢true (sym never))
-sealed_sent master (number ∷ sealed) backed low high fails = go (is_side_stored master.log number) refl fails
-    (sealed_sent master sealed backed (All-tail (λ n. FIRST_SIDE_SEGMENT ≤ n) number sealed low) (All-tail (λ n. n < FIRST_SIDE_SEGMENT + length master.log.sides) number sealed high))
-  where
-    go : (b : Bool) → is_side_stored master.log number ≡ b → (b && list_all (is_side_stored master.log) sealed) ≡ false
-        → (list_all (is_side_stored master.log) sealed ≡ false → 1 ≤ length (appends master)) → 1 ≤ length (appends master)
-    go true is fails later = later fails
-    go false is fails later =
-        side_sent master number backed (All-head (λ n. FIRST_SIDE_SEGMENT ≤ n) number sealed low)
-        (All-head (λ n. n < FIRST_SIDE_SEGMENT + length master.log.sides) number sealed high) is
+sealed_sent master sealed backed low high fails =
+    let at = fails_at (is_side_stored master.log) sealed 0 fails in
+    side_sent master (get_or sealed at.place 0) backed (low at.place 0 at.within) (high at.place 0 at.within) at.fails
 
 pub waiting_sends : (w : World) (m number : ℕ) → has_crashed w m ≡ false → 1 ≤ length (master_at w m).log.known
     → All (λ n. FIRST_SIDE_SEGMENT ≤ n) (tablet_in w m number).pulling.sealed

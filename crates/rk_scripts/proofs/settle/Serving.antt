@@ -3,8 +3,7 @@ use Rattle.std.proofs.Common.{◌≡◌, ◌<◌, ◌+◌, ℕ, zero, suc, Bool,
 use Rattle.std.proofs.Common.{subst, arith}
 use Rattle.rk_scripts.proofs.Words.{mod-lt, false≢true, hash_of, Call, LANES, known_owner, looks_up, Session, call_lane, Cluster, lane_at}
 use Rattle.rk_scripts.proofs.Words.{session_at, is_staged, World, has_crashed, lives, master_at, log_round, Course, ask_exchange}
-use Rattle.rk_scripts.proofs.Words.{hear_tasks, is_staged_by, request_by, serve_by, try_tasks, was_moved}
-use Rattle.rk_scripts.proofs.Words.{Node, and_parts}
+use Rattle.rk_scripts.proofs.Words.{hear_tasks, is_staged_by, request_by, serve_by, try_tasks, was_moved, Node, and_parts}
 use Rattle.rk_scripts.proofs.settle.ExchangeTasks.{commits, hears, requests, tries, tries_again}
 use Rattle.rk_scripts.proofs.settle.Exchanged.{HasSent, Sends, ask_exchanging, round_sending}
 use Rattle.rk_scripts.proofs.settle.Exchanging.{HasLeft}

@@ -1,8 +1,7 @@
 -- `settle` ends.
 use Rattle.std.proofs.Common.{arith, ◌≡◌, ℕ, zero, suc, List, [], ◌∷◌, refl, ⊎_elim}
-use Rattle.rk_scripts.proofs.Words.{LANES, Cluster, Fate, Kept}
-use Rattle.rk_scripts.proofs.Words.{Course, moved, moved_all, is_at_rest, settled_rests, IsWell, moved_well, well_other, settle_are}
-use Rattle.rk_scripts.proofs.Words.{AreAdded, Adversary, Ends, Rests, after_moves, settling}
+use Rattle.rk_scripts.proofs.Words.{LANES, Cluster, Fate, Kept, Course, moved, moved_all, is_at_rest, settled_rests, IsWell, moved_well}
+use Rattle.rk_scripts.proofs.Words.{well_other, settle_are, AreAdded, Adversary, Ends, Rests, after_moves, settling}
 use Rattle.rk_scripts.specs.settle.Moves.{faultless}
 use Rattle.rk_scripts.proofs.play.Masters.{names_masters}
 use Rattle.rk_scripts.proofs.play.Reaching.{IsReached}

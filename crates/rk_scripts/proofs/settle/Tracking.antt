@@ -1,20 +1,21 @@
 -- What holds of a lane all through an exchange, where each message on its topic that is delivered keeps it.
-use Rattle.std.proofs.Common.{◌≡◌, ◌<◌, ◌≤◌, ◌+◌, ◌-◌, ◌==◌, ◌||◌, ℕ, zero, suc, Bool, true, false, cond, not, List, [], ◌∷◌, ◌++◌, All}
-use Rattle.std.proofs.Common.{filter, find, map, Option, None, Some, is_some, refl, sym, ap, subst, ◌∙◌, append_assoc, ⊎_elim, arith}
-use Rattle.std.proofs.Common.{eqb-true}
-use Rattle.rk_scripts.proofs.Words.{range_with_len, cases_lt, false≢true, or_right, All-head, All-tail, All-weaker, filter_passes}
-use Rattle.rk_scripts.proofs.Words.{none-some, get, LANES, Message, Gave, Cluster, Happens, lane_at, step, World, Course, hand_by}
-use Rattle.rk_scripts.proofs.Words.{is_number_off, is_there, oldest_after, sent_after, forgets, is_on, find_passes, IsGoodLane, Lasts}
-use Rattle.rk_scripts.proofs.Words.{Arrival, arrived, deliveries_left, forgotten, taken_off, masters_in_order, taken_off_fewer, added_after}
-use Rattle.rk_scripts.proofs.Words.{Event}
+use Rattle.std.proofs.Common.{◌≡◌, ◌<◌, ◌≤◌, ◌+◌, ◌-◌, ℕ, zero, suc, Bool, true, false, not, List, [], ◌∷◌, ◌++◌, All, filter, find, map}
+use Rattle.std.proofs.Common.{Option, None, Some, is_some, refl, sym, ap, subst, ◌∙◌, append_assoc, ⊎_elim, arith, Contains}
+use Rattle.rk_scripts.proofs.Words.{range_with_len, cases_lt, false≢true, All-head, All-tail, All-weaker, filter_passes, none-some, get}
+use Rattle.rk_scripts.proofs.Words.{LANES, Message, Gave, Cluster, Happens, lane_at, step, World, Course, hand_by, is_number_off, is_there}
+use Rattle.rk_scripts.proofs.Words.{oldest_after, sent_after, forgets, is_on, find_passes, IsGoodLane, Lasts, Arrival, arrived}
+use Rattle.rk_scripts.proofs.Words.{deliveries_left, forgotten, taken_off, masters_in_order, taken_off_fewer, added_after, Event}
 use Rattle.rk_settle.specs.Exchange.{is_message_off}
+use Rattle.rk_inv_base.proofs.Words.{stands_cases}
+use Rattle.rk_inv_base.proofs.calls.Records.{filter_stands}
+use Rattle.rk_inv_wellformed.proofs.maps.Lists.{all_find, range_within}
+use Rattle.rk_scripts.proofs.settle.Noticing.{in_where, stands_in, is_in, one_of, in_range}
 use Rattle.rk_scripts.proofs.settle.Delivering.{ArrivesAt, IsOff, taking_off}
 use Rattle.rk_scripts.proofs.settle.ExchangeTasks.{Topic, hands, sorts}
 use Rattle.rk_scripts.proofs.settle.Exchanging.{forgotten_no_more, tested_there}
 use Rattle.rk_scripts.proofs.settle.Going.{Comes, Goes, IsAt, alone_fresh, goes_here, goes_on, occurs_move, still_move}
 use Rattle.rk_scripts.proofs.settle.Lanes.{IsSameBeside, stepped_changes}
 use Rattle.rk_scripts.proofs.settle.NoticesFirst.{formed_at}
-use Rattle.rk_scripts.proofs.settle.Noticing.{is_in, one_of, in_range}
 use Rattle.rk_inv_lanes.proofs.late.Tests.{none_passes}
 use Rattle.rk_scripts.proofs.settle.Pending.{arrived_old, forgotten_gone, forgotten_less}
 use Rattle.rk_scripts.proofs.settle.Setting.{Setting, eight}
@@ -25,30 +26,12 @@ use Rattle.rk_scripts.proofs.settle.Tasks.{Task, delivers}
 
 -- what is in a list and passes is in the filtered one
 pub is_in_filtered : (test : ℕ → Bool) (list : List ℕ) (n : ℕ) → is_in n list ≡ true → test n ≡ true → is_in n (filter test list) ≡ true
-is_in_filtered test [] n none passes = none
-is_in_filtered test (first ∷ list) n some passes = go (first == n) refl some (λ later. is_in_filtered test list n later passes)
-  where
-    kept : (b : Bool) → is_in n (filter test list) ≡ true → is_in n (cond b (first ∷ filter test list) (filter test list)) ≡ true
-    kept true there = or_right (first == n) (is_in n (filter test list)) there
-    kept false there = there
-
-    go : (b : Bool) → (first == n) ≡ b → (b || is_in n list) ≡ true → (is_in n list ≡ true → is_in n (filter test list) ≡ true)
-        → is_in n (cond (test first) (first ∷ filter test list) (filter test list)) ≡ true
-    go true is there later =
-        let same : first ≡ n = eqb-true first n is in
-        subst (λ (b : Bool). is_in n (cond b (first ∷ filter test list) (filter test list)) ≡ true) (sym (ap test same ∙ passes))
-        (ap (λ (b : Bool). b || is_in n (filter test list)) is)
-    go false is there later = kept (test first) (later there)
+is_in_filtered test list n there passes = in_where (filter test list) n (filter_stands test list n (stands_in list n there) passes)
 
 -- what is found in a range is not before it
 found_past : (test : ℕ → Bool) (count start found : ℕ) → find test (range_with_len start count) ≡ Some found → start ≤ found
-found_past test zero start found is = absurd (none-some found is)
-found_past test (suc count) start found is = go (test start) is (λ later. found_past test count (start + 1) found later)
-  where
-    go : (b : Bool) → cond b (Some start) (find test (range_with_len (start + 1) count)) ≡ Some found
-        → (find test (range_with_len (start + 1) count) ≡ Some found → start + 1 ≤ found) → start ≤ found
-    go true is later = let same : start ≡ found = cc is in omega (arith, same)
-    go false is later = omega (arith, later is)
+found_past test count start found is =
+    (all_find (λ n. (start ≤ n) × (n < start + count)) test (range_with_len start count) found (range_within start count) is).0
 
 -- what lies between two numbers is among those after the first
 between : (from sent n : ℕ) → from < n → n ≤ sent → (from + 1 ≤ n) × (n < (from + 1) + (sent - from))
@@ -143,13 +126,10 @@ module _ (s : Setting) (lane : ℕ) (inside : lane < LANES) (origin : Cluster) (
       (λ later comes_later on. forgets_track first off list from rest before later comes_later (All-tail (λ n. IsOffAt topic first n) number list all) on)
     where
       still : (n : ℕ) (message : Message) → get (forgotten (lane_at course.cluster lane) number).wire.messages n ≡ Some message → is_in n (number ∷ list) ≡ true → is_in n list ≡ true
-      still n message found there = go (number == n) refl there
-        where
-          go : (b : Bool) → (number == n) ≡ b → (b || is_in n list) ≡ true → is_in n list ≡ true
-          go true is some =
-              let same : number ≡ n = eqb-true number n is in
-              absurd (none-some message (sym (forgotten_gone (lane_at course.cluster lane) number) ∙ (ap (λ (k : ℕ). get (forgotten (lane_at course.cluster lane) number).wire.messages k) same ∙ found)))
-          go false is some = some
+      still n message found there = ⊎_elim
+          (λ (same : number ≡ n).
+          absurd (none-some message (sym (forgotten_gone (lane_at course.cluster lane) number) ∙ (ap (λ (k : ℕ). get (forgotten (lane_at course.cluster lane) number).wire.messages k) same ∙ found))))
+          (λ (behind : Contains list n). in_where list n behind) (stands_cases number list n (stands_in (number ∷ list) n there))
 
   -- messages are sorted
   sorts_track : (from last : ℕ) (rest : List Task) (before : Cluster) (course : Course) → Comes s before course → course.tasks ≡ sorts lane topic from last ∷ rest

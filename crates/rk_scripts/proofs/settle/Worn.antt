@@ -1,8 +1,7 @@
 -- What is known of a lane that is not worn.
 use Rattle.std.proofs.Common.{◌≡◌, ◌<◌, ℕ, Option, None, Some, refl, sym, arith, option_map}
 use Rattle.rk_scripts.proofs.Words.{option_or, none-some, StepError, Event, Called, ask, ask_by, Session, IsWellFormed, is_added}
-use Rattle.rk_scripts.proofs.Words.{WORN_NUMBER, ask_refusal, refusal, where_true, worn, step, stepped_by, World, worn_in}
-use Rattle.rk_world.specs.Refusals.{fault_of}
+use Rattle.rk_scripts.proofs.Words.{WORN_NUMBER, ask_refusal, refusal, where_true, worn, step, stepped_by, World, worn_in, fault_of}
 use Rattle.rk_inv_wellformed.proofs.room.Rises.{keeps_to_top}
 use Rattle.rk_inv_wellformed.proofs.lanes.Events.{not_too_great}
 
