@@ -5,7 +5,7 @@ use Rattle.std.specs.Int.{IsInRange}
 use Rattle.std.specs.List.{list_any}
 use Rattle.std.specs.Str.Lines.{lines}
 use Rattle.std.proofs.lemmas.Bool.{cond_both, leb-true}
-use Rattle.std.proofs.lemmas.List.Elements.{All-nil}
+use Rattle.std.proofs.lemmas.List.Elements.{All-nil, All-weaker}
 use Rattle.std.proofs.lemmas.Result.{IfOk-at_ok, IfOk-weaker}
 use Rattle.rk_types.specs.declared.call.Op.TheVariants as op
 use Rattle.rk_types.specs.declared.hashing.TheConstants.{LANES}
@@ -149,47 +149,56 @@ asked-lawful operation client table key words =
 call_of-lawful : (words : List (List ℕ)) → IfOk (call_of words) IsLawfulCommand
 call_of-lawful words = grind (arith, after-keeps, free, cond_both, asked-lawful)
 
--- ---- lines
+-- ---- lines and scripts
 
-command_of-lawful : (name : List ℕ) (words : List (List ℕ)) → IfOk (command_of name words) IsLawfulCommand
-command_of-lawful name words =
-    let Reads : Result Command Code → Type 0 = λ read. IfOk read IsLawfulCommand in
-    let plain : Result Command Code = after (keyword_of name) (λ keyword. plain_command keyword words) in
-    cond_both (bytes_eq name (codes "call")) (call_of words) (cond (bytes_eq name (codes "advance")) (advance_of words) plain) Reads
-    (λ is_call. call_of-lawful words)
-    (λ other.
-    cond_both (bytes_eq name (codes "advance")) (advance_of words) plain Reads
-    (λ is_advance. advance_of-lawful words)
-    (λ other. after-keeps (λ keyword. Unit {0}) IsLawfulCommand (keyword_of name) (λ keyword. plain_command keyword words)
-    (λ keyword nothing. plain_command-lawful keyword words) (free (keyword_of name))))
+-- what each call has that is read, each advance and each plain command, each command has of a script that is read
+module _ (P : Command → Type 0) (calls : (words : List (List ℕ)) → IfOk (call_of words) P) (advances : (words : List (List ℕ)) → IfOk (advance_of words) P)
+    (plains : (keyword : Keyword) (words : List (List ℕ)) → IfOk (plain_command keyword words) P) where
+  command_keeps : (name : List ℕ) (words : List (List ℕ)) → IfOk (command_of name words) P
+  command_keeps name words =
+      let Reads : Result Command Code → Type 0 = λ read. IfOk read P in
+      let plain : Result Command Code = after (keyword_of name) (λ keyword. plain_command keyword words) in
+      cond_both (bytes_eq name (codes "call")) (call_of words) (cond (bytes_eq name (codes "advance")) (advance_of words) plain) Reads
+      (λ is_call. calls words)
+      (λ other.
+      cond_both (bytes_eq name (codes "advance")) (advance_of words) plain Reads
+      (λ is_advance. advances words)
+      (λ other. after-keeps (λ keyword. Unit {0}) P (keyword_of name) (λ keyword. plain_command keyword words)
+      (λ keyword nothing. plains keyword words) (free (keyword_of name))))
 
-said_in-lawful : (line : List ℕ) (words : List (List ℕ)) → IfOk (said_in line words) (λ said. IfSome said IsLawfulCommand)
-said_in-lawful line [] = tt
-said_in-lawful line (name ∷ words) =
-    let Says : Result (Option Command) Code → Type 0 = λ said. IfOk said (λ o. IfSome o IsLawfulCommand) in
-    let says : Result (Option Command) Code = made_of Some (command_of name words) in
-    cond_both (slice_index name 0 == COMMENT) (Ok None) (cond (list_any is_bad line) (Err BadByte) says) Says
-    (λ comment. tt)
-    (λ other.
-    cond_both (list_any is_bad line) (Err BadByte) says Says
-    (λ bad. tt)
-    (λ good. made_of-keeps IsLawfulCommand (λ o. IfSome o IsLawfulCommand) Some (command_of name words)
-    (λ command lawful. lawful) (command_of-lawful name words)))
+  said_keeps : (line : List ℕ) (words : List (List ℕ)) → IfOk (said_in line words) (λ said. IfSome said P)
+  said_keeps line [] = tt
+  said_keeps line (name ∷ words) =
+      let Says : Result (Option Command) Code → Type 0 = λ said. IfOk said (λ o. IfSome o P) in
+      let says : Result (Option Command) Code = made_of Some (command_of name words) in
+      cond_both (slice_index name 0 == COMMENT) (Ok None) (cond (list_any is_bad line) (Err BadByte) says) Says
+      (λ comment. tt)
+      (λ other.
+      cond_both (list_any is_bad line) (Err BadByte) says Says
+      (λ bad. tt)
+      (λ good. made_of-keeps P (λ o. IfSome o P) Some (command_of name words) (λ command has. has) (command_keeps name words)))
 
--- ---- scripts
+  -- a command at a line, where lines are counted from 1
+  abbrev HasAt : Numbered → Type 0
+  HasAt numbered = (1 ≤ numbered.line) × P numbered.command
 
-before_others-lawful : (line : ℕ) (said : Result (Option Command) Code) (others : Result (List Numbered) ParseError) → 1 ≤ line → IfOk said (λ o. IfSome o IsLawfulCommand) → IfOk others (All IsLawful) → IfOk (before_others line said others) (All IsLawful)
-before_others-lawful line said others first lawful rest = grind arith
+  before_keeps : (line : ℕ) (said : Result (Option Command) Code) (others : Result (List Numbered) ParseError) → 1 ≤ line → IfOk said (λ o. IfSome o P) → IfOk others (All HasAt) → IfOk (before_others line said others) (All HasAt)
+  before_keeps line said others first here rest = grind arith
 
-commands_from-lawful : (line : ℕ) (texts : List (List ℕ)) → 1 ≤ line → IfOk (commands_from line texts) (All IsLawful)
-commands_from-lawful line [] first = All-nil IsLawful
-commands_from-lawful line (text ∷ texts) first =
-    before_others-lawful line (said_by text) (commands_from (line + 1) texts) first (said_in-lawful text (words_of text))
-    (commands_from-lawful (line + 1) texts (omega arith))
+  from_keeps : (line : ℕ) (texts : List (List ℕ)) → 1 ≤ line → IfOk (commands_from line texts) (All HasAt)
+  from_keeps line [] first = All-nil HasAt
+  from_keeps line (text ∷ texts) first =
+      before_keeps line (said_by text) (commands_from (line + 1) texts) first (said_keeps text (words_of text)) (from_keeps (line + 1) texts (omega arith))
+
+  pub script_keeps : (script : List ℕ) (commands : List Numbered) → script_of script ≡ Ok commands → All HasAt commands
+  script_keeps script commands said =
+      IfOk-at_ok (All HasAt) said
+      (cond_both (nat_lt LONGEST_SCRIPT (length script)) (Err (Refused 0 ScriptLength)) (commands_from 1 (lines script)) (λ read. IfOk read (All HasAt))
+      (λ long. tt) (λ short. from_keeps 1 (lines script) (omega arith)))
 
 -- the commands of a script are lawful
 pub script_of-lawful : (script : List ℕ) (commands : List Numbered) → script_of script ≡ Ok commands → All IsLawful commands
 script_of-lawful script commands said =
-    IfOk-at_ok (All IsLawful) said
-    (cond_both (nat_lt LONGEST_SCRIPT (length script)) (Err (Refused 0 ScriptLength)) (commands_from 1 (lines script)) (λ read. IfOk read (All IsLawful))
-    (λ long. tt) (λ short. commands_from-lawful 1 (lines script) (omega arith)))
+    All-weaker (λ numbered. (1 ≤ numbered.line) × IsLawfulCommand numbered.command) IsLawful
+    (λ numbered has. record { line = has.0; command = has.1 }) commands
+    (script_keeps IsLawfulCommand call_of-lawful advance_of-lawful plain_command-lawful script commands said)

@@ -1,33 +1,24 @@
 -- Commands that are read name numbers of their widths: a client has 32 bits, a table and a version 64.
-use Rattle.std.proofs.Common.{arith, ◌≡◌, ℕ, ◌+◌, ◌≤◌, cond, List, [], ◌∷◌, length}
-use Rattle.std.specs.Prelude.{◌-◌, ◌^◌, ◌==◌, All, IfOk, IfSome, bytes_eq, codes, nat_lt, slice_index, Option, Some, None, Result, Ok, Err}
+use Rattle.std.proofs.Common.{arith, ◌≡◌, ℕ, ◌≤◌, List, []}
+use Rattle.std.specs.Prelude.{◌-◌, ◌^◌, All, IfOk, Result, Ok}
 use Rattle.std.specs.Int.{IsInRange}
-use Rattle.std.specs.List.{list_any}
-use Rattle.std.specs.Str.Lines.{lines}
 use Rattle.std.proofs.lemmas.Bool.{cond_both}
-use Rattle.std.proofs.lemmas.List.Elements.{All-nil}
-use Rattle.std.proofs.lemmas.Result.{IfOk-at_ok, IfOk-weaker}
+use Rattle.std.proofs.lemmas.List.Elements.{All-weaker}
+use Rattle.std.proofs.lemmas.Result.{IfOk-weaker}
 use Rattle.rk_types.specs.declared.call.Op.{Op}
 use Rattle.rk_types.specs.declared.call.Op.TheVariants as op
 use Rattle.rk_script.specs.declared.code.Code.{Code}
-use Rattle.rk_script.specs.declared.code.Code.TheVariants.{BadByte, ScriptLength}
 use Rattle.rk_script.specs.declared.command.Command.{Command}
 use Rattle.rk_script.specs.declared.command.Command.TheVariants as command
 use Rattle.rk_script.specs.declared.command.Numbered.{Numbered}
-use Rattle.rk_script.specs.declared.line.TheConstants.{COMMENT}
 use Rattle.rk_script.specs.declared.names.Keyword.{Keyword}
 use Rattle.rk_script.specs.declared.names.Keyword.TheVariants.{Table, Client}
 use Rattle.rk_script.specs.declared.names.Operation.{Operation}
 use Rattle.rk_script.specs.declared.names.Operation.TheVariants.{CondPut}
-use Rattle.rk_script.specs.declared.script.ParseError.{ParseError}
-use Rattle.rk_script.specs.declared.script.ParseError.TheVariants.{Refused}
-use Rattle.rk_script.specs.declared.script.TheConstants.{LONGEST_SCRIPT}
-use Rattle.rk_script.specs.Commands.{advance_of, after, asked, call_of, command_of, key_of, made_of, made_of_both, op_of, plain_command}
-use Rattle.rk_script.specs.Lines.{is_bad, said_in}
-use Rattle.rk_script.specs.Names.{keyword_of}
+use Rattle.rk_script.specs.Commands.{advance_of, after, asked, call_of, key_of, made_of, made_of_both, op_of, plain_command}
 use Rattle.rk_script.specs.Numbers.{client_of, number_in, table_of}
-use Rattle.rk_script.specs.Script.{before_others, commands_from, script_of}
-use Rattle.rk_script.proofs.LawfulLemmas.{after-keeps, free, made_of-keeps, made_of_both-keeps, number_in-range, one-keeps, two-keeps}
+use Rattle.rk_script.specs.Script.{script_of}
+use Rattle.rk_script.proofs.LawfulLemmas.{after-keeps, free, made_of-keeps, made_of_both-keeps, number_in-range, one-keeps, script_keeps, two-keeps}
 
 -- the version that an operation expects, if it expects one, has 64 bits
 abbrev pub HasVersion : Op → Type 0
@@ -81,49 +72,14 @@ asked-widths operation client table key words =
 call_of-widths : (words : List (List ℕ)) → IfOk (call_of words) HasWidths
 call_of-widths words = grind (arith, after-keeps, free, cond_both, asked-widths)
 
--- ---- lines
-
-command_of-widths : (name : List ℕ) (words : List (List ℕ)) → IfOk (command_of name words) HasWidths
-command_of-widths name words =
-    let Reads : Result Command Code → Type 0 = λ read. IfOk read HasWidths in
-    let plain : Result Command Code = after (keyword_of name) (λ keyword. plain_command keyword words) in
-    cond_both (bytes_eq name (codes "call")) (call_of words) (cond (bytes_eq name (codes "advance")) (advance_of words) plain) Reads
-    (λ is_call. call_of-widths words)
-    (λ other.
-    cond_both (bytes_eq name (codes "advance")) (advance_of words) plain Reads
-    (λ is_advance. advance_of-widths words)
-    (λ other. after-keeps (λ keyword. Unit {0}) HasWidths (keyword_of name) (λ keyword. plain_command keyword words)
-    (λ keyword nothing. plain_command-widths keyword words) (free (keyword_of name))))
-
-said_in-widths : (line : List ℕ) (words : List (List ℕ)) → IfOk (said_in line words) (λ said. IfSome said HasWidths)
-said_in-widths line [] = tt
-said_in-widths line (name ∷ words) =
-    let Says : Result (Option Command) Code → Type 0 = λ said. IfOk said (λ o. IfSome o HasWidths) in
-    let says : Result (Option Command) Code = made_of Some (command_of name words) in
-    cond_both (slice_index name 0 == COMMENT) (Ok None) (cond (list_any is_bad line) (Err BadByte) says) Says
-    (λ comment. tt)
-    (λ other.
-    cond_both (list_any is_bad line) (Err BadByte) says Says
-    (λ bad. tt)
-    (λ good. made_of-keeps HasWidths (λ o. IfSome o HasWidths) Some (command_of name words) (λ command has. has) (command_of-widths name words)))
-
 -- ---- scripts
 
 -- a command at a line has its widths
 abbrev pub HasWidthsAt : Numbered → Type 0
 HasWidthsAt numbered = HasWidths numbered.command
 
-before_others-widths : (line : ℕ) (said : Result (Option Command) Code) (others : Result (List Numbered) ParseError) → IfOk said (λ o. IfSome o HasWidths)
-    → IfOk others (All HasWidthsAt) → IfOk (before_others line said others) (All HasWidthsAt)
-before_others-widths line said others here rest = grind arith
-
-commands_from-widths : (line : ℕ) (texts : List (List ℕ)) → IfOk (commands_from line texts) (All HasWidthsAt)
-commands_from-widths line [] = All-nil HasWidthsAt
-commands_from-widths line (text ∷ texts) = grind (arith, before_others-widths, said_in-widths, (commands_from-widths (line + 1) texts))
-
 -- the commands of a script do
 pub script_of-widths : (script : List ℕ) (commands : List Numbered) → script_of script ≡ Ok commands → All HasWidthsAt commands
 script_of-widths script commands said =
-    IfOk-at_ok (All HasWidthsAt) said
-    (cond_both (nat_lt LONGEST_SCRIPT (length script)) (Err (Refused 0 ScriptLength)) (commands_from 1 (lines script)) (λ read. IfOk read (All HasWidthsAt))
-    (λ long. tt) (λ short. commands_from-widths 1 (lines script)))
+    All-weaker (λ numbered. (1 ≤ numbered.line) × HasWidthsAt numbered) HasWidthsAt (λ numbered has. has.1) commands
+    (script_keeps HasWidths call_of-widths advance_of-widths plain_command-widths script commands said)
