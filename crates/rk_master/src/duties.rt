@@ -137,7 +137,7 @@ fn pull_of(number: u8, row: &(u32, TabletLane)) -> Message
         to: Node::Master(row.1.source),
         body: Body::Pull(Pull {
             tenure: tenure_at(row),
-            token: row.1.token,
+            token: *row.1.progress.token(),
         }),
     }
 }

@@ -7,6 +7,7 @@ ghost use Rattle.rk_entry.specs.Numbers.{IsNumber};
 ghost use Rattle.rk_entry.specs.declared.lists.TheConstants.{FIRST_SIDE_SEGMENT};
 ghost use Rattle.rk_log.specs.Log.{with_side as with_side_lem};
 ghost use Rattle.rk_side_log.specs.Spelled.{bytes_in};
+ghost use Rattle.rk_table.specs.Scans.{end};
 ghost use Rattle.rk_world.specs.Ends.{items_of as items_of_lem};
 ghost use Rattle.rk_world.specs.Master.{tablet_at};
 ghost use Rattle.rk_world.specs.Pulls as pulls;
@@ -17,7 +18,6 @@ ghost use Rattle.rk_types.specs.Places.{IsAt};
 ghost use Rattle.rk_master.specs.Pulls.{CanClose, DoesPull, HasLawfulItems, with_sides};
 ghost use Rattle.rk_master.specs.State.{IsState, master_of};
 
-use crate::pulling::is_token;
 use crate::staging::append;
 use crate::state::MasterState;
 use crate::tablets::search;
@@ -26,7 +26,6 @@ use rk_entry::Entry;
 use rk_log::MasterLog;
 use rk_message::{Got, Pulled};
 use rk_segment::Segment;
-use rk_table::END;
 use rk_types::{Held, Listed, NoMemory, Token};
 use std::alloc::Global;
 
@@ -66,10 +65,9 @@ fn pull_on(state: &mut MasterState, at: usize, pulled: &Pulled) -> Result<(), No
     ensures state { OnOk result (IsState state.new) }
     ensures ok { OnOk result (master_of state.new ≡ pulls.batch_taken (master_of state.old) pulled.now.tenure.tablet pulled.now) }
 {
-    let next = pulled.next;
     let items = items_of(*state.tablets.allocator(), &pulled.entries)?;
-    take_batch(state, at, items, next)?;
-    if !is_token(&next, &END) {
+    let has_all = take_batch(state, at, items, pulled.next)?;
+    if !has_all {
         return Ok(());
     }
     seal_at(state, at)?;
@@ -90,13 +88,14 @@ fn items_of(alloc: Global, entries: &Listed<Entry>) -> Result<Vec<Held>, NoMemor
     Ok(items)
 }
 
-// The tablet at a place replays a batch by the worker whose turn it is, and its token moves on.
+// The tablet at a place replays a batch by the worker whose turn it is, and its token moves on. Answers whether that was
+// the last batch.
 fn take_batch(
     state: &mut MasterState,
     at: usize,
     items: Vec<Held>,
     next: Token,
-) -> Result<(), NoMemory>
+) -> Result<bool, NoMemory>
     requires state { IsState state.old }
     requires within { at < length state.old.tablets.items }
     requires pulls { DoesPull state.old.tablets.items at }
@@ -107,12 +106,13 @@ fn take_batch(
     ensures ok { OnOk result ((number : ℕ) → IsAt number state.old.tablets.items at → master_of state.new
         ≡ pulls.token_passed (pulls.replay (master_of state.old) number
         ((tablet_at (master_of state.old) number).pulling.batches % 4) items.items) number next) }
+    ensures last { IfOk result (λ has_all. has_all ≡ pulls.is_token next end) }
 {
     let tablet = &mut state.tablets[at].1;
     let worker = tablet.worker();
     tablet.replay(&mut state.records, worker, items)?;
     tablet.pass(next)?;
-    Ok(())
+    Ok(tablet.progress.has_all())
 }
 
 // The side logs of the tablet at a place become side segments, and the hashes that were wanted are forgotten.

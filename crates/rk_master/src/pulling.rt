@@ -6,7 +6,6 @@ ghost use Rattle.rk_priority.specs.Hashes.{is_batch};
 ghost use Rattle.rk_side_log.specs.Replayed.{side_replayed};
 ghost use Rattle.rk_bucket_table.specs.Tables.{items_of as records_of};
 ghost use Rattle.rk_transfer.specs.Handover.{joined};
-ghost use Rattle.rk_world.specs.Pulls.{is_token as is_token_lem};
 ghost use Rattle.rk_world.specs.RoleTests.{is_receiving_at as is_receiving_at_lem};
 ghost use Rattle.rk_world.specs.Tablet.{with_handover};
 ghost use Rattle.rk_master.specs.Parts.{tablet_of};
@@ -26,13 +25,6 @@ const MOST_SIDE_BYTES: u64 = 1 << 62;
 // So many items are too many for one batch.
 const MOST_ITEMS: usize = 1 << 32;
 
-/// Whether two tokens are one.
-pub(crate) fn is_token(a: &Token, b: &Token) -> bool
-    ensures { result ≡ is_token_lem a.now b.now }
-{
-    a.bucket == b.bucket && a.skip == b.skip
-}
-
 impl TabletLane {
     /// Whether the tablet pulls at this term.
     pub(crate) fn is_receiving_at(&self, term: u64) -> bool
@@ -45,7 +37,7 @@ impl TabletLane {
     pub(crate) fn awaits(&self, pulled: &Pulled) -> bool
         ensures { result ≡ awaits_lem (tablet_of self.now) pulled.now }
     {
-        self.is_receiving_at(pulled.tenure.term) && is_token(&pulled.token, &self.token)
+        self.is_receiving_at(pulled.tenure.term) && self.progress.awaits(&pulled.token)
     }
 
     /// The worker whose turn it is.
@@ -85,7 +77,7 @@ impl TabletLane {
         ensures { OnOk result (tablet_of self.new ≡ with_token (tablet_of self.old) next) }
     {
         self.batches = self.batches.checked_add(1).ok_or(NoMemory)?;
-        self.token = next;
+        self.progress.pass(next);
         Ok(())
     }
 

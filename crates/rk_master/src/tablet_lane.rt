@@ -22,11 +22,11 @@ use rk_done::Completions;
 use rk_entry::{Entry, Joined};
 use rk_message::{Body, Message, Tenure, Transfer};
 use rk_priority::Wanted;
+use rk_pull::Progress;
 use rk_rebuild::Gather;
 use rk_side_log::SideLogs;
-use rk_table::FIRST;
 use rk_transfer::{Handover, Role};
-use rk_types::{Ended, Key, Listed, NoMemory, Node, Range, Token, bucket_of, hash};
+use rk_types::{Ended, Key, Listed, NoMemory, Node, Range, bucket_of, hash};
 use rk_world::Reading;
 use std::alloc::Global;
 
@@ -41,7 +41,8 @@ pub struct TabletLane {
     /// The master that the tablet was granted to be pulled from last; 0 where none was, or the tablet is owned since.
     pub source: u8,
     pub wanted: Wanted,
-    pub token: Token,
+    /// How far the pulls have come.
+    pub progress: Progress,
     /// How many batches were pulled.
     pub batches: u64,
     /// What was pulled and is not sealed.
@@ -83,7 +84,7 @@ impl TabletLane {
         is_there
             || !is_receiving(self.handover.role)
             || self.wanted.resolved(hash)
-            || bucket_of(hash) < self.token.bucket
+            || self.progress.passed_bucket(bucket_of(hash))
     }
 
     /// Wants a hash. After `NoMemory` nothing has changed.
@@ -141,7 +142,7 @@ impl TabletLane {
             completions: Completions::new(alloc),
             source: 0,
             wanted: Wanted::new(alloc),
-            token: FIRST,
+            progress: Progress::new(),
             batches: 0,
             sides: SideLogs::new(alloc),
             sealed: Listed::new(alloc),
@@ -160,7 +161,7 @@ impl TabletLane {
             completions: self.completions.duplicate()?,
             source: self.source,
             wanted: self.wanted.duplicate()?,
-            token: self.token,
+            progress: self.progress,
             batches: self.batches,
             sides: self.sides.duplicate()?,
             sealed: self.sealed.duplicate()?,
@@ -228,7 +229,7 @@ impl TabletLane {
         self.forget_merged();
         self.source = source;
         self.wanted.clear();
-        self.token = FIRST;
+        self.progress = Progress::new();
         self.batches = 0;
         self.sides.clear();
         self.sealed = self.sealed.empty_like();

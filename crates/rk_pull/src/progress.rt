@@ -1,13 +1,12 @@
-ghost use Rattle.std.specs.Prelude.{◌≡◌, ◌<◌, ◌↔◌, IsTrue, nat_eq};
-ghost use Rattle.std.specs.Bool.{OnTrue, OnFalse};
-ghost use Rattle.rk_table.specs.Scans.{first};
+ghost use Rattle.std.specs.Prelude.{◌≡◌, ◌==◌, ◌&&◌, nat_lt};
+ghost use Rattle.rk_table.specs.Scans.{end, first};
 
-use rk_table::FIRST;
+use rk_table::{END, FIRST};
 use rk_types::Token;
 use std::marker::Model;
 
 /// How far the pulls of a range have come: the token behind all items that have arrived.
-#[derive(Drop)]
+#[derive(Clone, Copy)]
 pub struct Progress {
     token: Token,
 }
@@ -18,6 +17,8 @@ impl Model for Progress {
     ghost Value = { Token };
 
     ghost view = { λ progress. progress.token };
+
+    ghost inverse = { λ token. record { token = token } };
 }
 
 impl Progress {
@@ -28,18 +29,18 @@ impl Progress {
         Progress { token: FIRST }
     }
 
-    /// Takes a batch that was asked for at `from` and ends at `next`, and answers whether it goes on where the last one
-    /// ended. Then the token is `next`; else nothing has changed.
-    pub fn take(&mut self, from: &Token, next: Token) -> bool
-        ensures fits { IsTrue result ↔ (from.now ≡ self.old) }
-        ensures taken { OnTrue result (self.new ≡ next) }
-        ensures refused { OnFalse result (self.new ≡ self.old) }
+    /// Whether a batch that was asked for at this token goes on where the last one ended.
+    pub fn awaits(&self, from: &Token) -> bool
+        ensures { result ≡ (from.now.bucket == self.now.bucket && (from.now.skip == self.now.skip)) }
     {
-        if *from != self.token {
-            return false;
-        }
+        *from == self.token
+    }
+
+    /// The items of a batch that was awaited have arrived: the token is `next` now, the one behind that batch.
+    pub fn pass(&mut self, next: Token)
+        ensures { self.new ≡ next }
+    {
         self.token = next;
-        true
     }
 
     /// The token behind all items that have arrived.
@@ -52,8 +53,15 @@ impl Progress {
     /// Whether all items of this bucket have arrived: the token is behind it. In the token's own bucket some items may
     /// have arrived, which only the table tells.
     pub fn passed_bucket(&self, bucket: u16) -> bool
-        ensures { IsTrue result ↔ (bucket < self.now.bucket) }
+        ensures { result ≡ nat_lt bucket self.now.bucket }
     {
         self.token.bucket > bucket
+    }
+
+    /// Whether all items of the range have arrived: the token is the end.
+    pub fn has_all(&self) -> bool
+        ensures { result ≡ (self.now.bucket == end.bucket && (self.now.skip == end.skip)) }
+    {
+        self.token == END
     }
 }

@@ -36,18 +36,27 @@ fn pulls_in_batches(rt: HostRuntime) -> Result<(), Fail> {
     Ok(())
 }
 
-// A batch that comes again is not taken.
+// A batch that comes again is not awaited.
 #[test]
-fn a_batch_is_taken_once(rt: HostRuntime) {
+fn a_batch_is_awaited_once(rt: HostRuntime) {
     let mut progress = Progress::new();
     let next = Token {
         bucket: 682,
         skip: 1,
     };
-    for taken in [true, false] {
-        same(&rt, &progress.take(&FIRST, next), &taken);
+    for awaited in [true, false] {
+        same(&rt, &progress.awaits(&FIRST), &awaited);
+        progress.pass(next);
         same(&rt, progress.token(), &next);
     }
     let passed = [681, 682].map(|bucket| progress.passed_bucket(bucket));
     same(&rt, &passed, &[true, false]);
+}
+
+#[test]
+fn the_end_is_all(rt: HostRuntime) {
+    let mut progress = Progress::new();
+    same(&rt, &progress.has_all(), &false);
+    progress.pass(END);
+    same(&rt, &progress.has_all(), &true);
 }

@@ -1,7 +1,8 @@
 use Rattle.rk_master.proofs.Words.{◌≡◌, ℕ, List, [], get_or, sym, ap, ◌∙◌, subst, Replayed, side_replayed, records_of, Master, Tablet}
 use Rattle.rk_master.proofs.Words.{TabletLane, IsClosable, tablet_of, Row, with_side, master_of}
 use Rattle.std.proofs.Common.{◌%◌}
-use Rattle.rk_world.specs.Pulls.{replay, token_passed}
+use Rattle.rk_table.specs.Scans.{end}
+use Rattle.rk_world.specs.Pulls.{is_token, replay, token_passed}
 use Rattle.rk_master.specs.Pulls.{with_token}
 use Rattle.rk_master.proofs.Closable.{lawful_read}
 use Rattle.rk_master.proofs.Handovers.{at_set, tablet_read}
@@ -44,3 +45,6 @@ returns-clause-ok c = λ number at.
     batch_made master (records_of c.replay.new.records) rows number c.args.at c.worker-worker.result read c.pass.new.self c.args.items.items c.args.next
     c.requires.state.tablets.order at c.index_mut.ensures.value c.in_ok-replay.ensures.workers c.in_ok-replay.ensures.records lane
     ∙ ap (λ (w : ℕ). token_passed (replay master number w c.args.items.items) number c.args.next) worker
+
+pub returns-clause-last : goal.returns-clause-last
+returns-clause-last c = c.has_all.ensures ∙ ap (λ (t : Tablet). is_token t.pulling.token end) c.in_ok-pass.ensures
