@@ -65,7 +65,7 @@ impl TabletMap {
         ensures absent { OnErr result (tablet_of self.now table hash ≡ None) }
         ensures refused { IfErr result (λ e. e ≡ MapError.NoTablet) }
     {
-        match with_hash(self.rows.as_slice(), table, hash) {
+        match self.row_with(table, hash) {
             Some(row) => Ok(row.tablet),
             None => Err(MapError::NoTablet),
         }
@@ -109,6 +109,13 @@ impl TabletMap {
         ensures { option_copied result ≡ row_of self.now tablet }
     {
         with_number(self.rows.as_slice(), tablet)
+    }
+
+    /// The row whose range has this hash of the table; none where no tablet has it. A step for each row.
+    pub fn row_with(&self, table: u64, hash: u64) -> Option<&Row>
+        ensures { option_copied result ≡ row_with self.now table hash }
+    {
+        self.rows.iter().find(|row| row.range.has(table, hash))
     }
 
     /// All rows, by rising tablet.
@@ -187,13 +194,6 @@ fn has_number(rows: &[Row], tablet: u32) -> bool
     ensures { result ≡ is_some (row_of rows.now tablet) }
 {
     with_number(rows, tablet).is_some()
-}
-
-// The row whose range has the hash.
-fn with_hash(rows: &[Row], table: u64, hash: u64) -> Option<&Row>
-    ensures { option_copied result ≡ row_with rows.now table hash }
-{
-    rows.iter().find(|row| row.range.has(table, hash))
 }
 
 // Whether the range meets that of some row.

@@ -111,6 +111,8 @@ fn check_rows<R: Abort + AllocGlobal>(rt: &R, map: &TabletMap) -> Result<(), Fai
     same(rt, &map.row(2), &Some(&row(2, 1, 0, 4)));
     same(rt, &map.row(7), &Some(&row_rebuilding(rt.alloc())?));
     same(rt, &map.row(9), &None);
+    same(rt, &map.row_with(1, 4), &Some(&row(2, 1, 0, 4)));
+    same(rt, &map.row_with(2, 4), &None);
     Ok(())
 }
 

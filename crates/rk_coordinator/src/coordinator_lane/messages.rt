@@ -1,7 +1,6 @@
 // What a coordinator makes of messages.
 ghost use Rattle.std.specs.Prelude.{◌≡◌, [], ◌∷◌, false, OnOk, OnErr, IfOk};
 ghost use Rattle.std.specs.Option.{option_copied};
-ghost use Rattle.rk_tablet_map.specs.Rows.{row_with};
 ghost use Rattle.rk_world.specs.Coordinator.{from_coordinator, owner_of as owner_of_lem};
 ghost use Rattle.rk_world.specs.CoordinatorStep as step;
 ghost use Rattle.rk_coordinator.specs.Handled.{IsHandled};
@@ -54,7 +53,7 @@ impl CoordinatorLane {
             ≡ (step.lookup_taken self.now (Node.Client client) lookup.now).sends) }
     {
         let mut sends = Vec::new(self.alloc());
-        if let Some(row) = with_hash(self.map.rows(), lookup) {
+        if let Some(row) = self.map.row_with(lookup.table, lookup.hash) {
             sends.push(located(client, row))?;
         }
         Ok(sends)
@@ -235,14 +234,6 @@ fn sending(sends: Vec<Message>) -> Handled
         sends,
         took_rebuilt: false,
     }
-}
-
-// The row whose range has the hash of a Lookup.
-fn with_hash<'a>(rows: &'a [Row], lookup: &Lookup) -> Option<&'a Row>
-    ensures { option_copied result ≡ row_with rows.now lookup.now.table lookup.now.hash }
-{
-    rows.iter()
-        .find(|row| row.range.has(lookup.table, lookup.hash))
 }
 
 // A client is told of the row that has its hash.
