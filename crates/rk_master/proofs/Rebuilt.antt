@@ -27,7 +27,7 @@ use Rattle.rk_world.specs.Lineage.{own_member}
 use Rattle.rk_world.specs.Master.{with_all, with_appended}
 use Rattle.rk_world.specs.Material.{material_of, side_entries}
 use Rattle.rk_world.specs.Rebuilds.{begun_from, copy_taken, merged_at, merging, own_material, own_place, rebuild_begun, rebuild_goes_on, rebuild_taken, rebuilding_on, rebuilt_entry, segment_gathered, with_begun, with_gathered, with_merged, without_foreign}
-use Rattle.rk_master.specs.Rebuilding.{gathered_from, is_awaiting, merged_with}
+use Rattle.rk_tablet.specs.Rebuilding.{gathered_from, is_awaiting, merged_with}
 use Rattle.rk_master.proofs.Closable.{closable_at}
 use Rattle.rk_master.proofs.Handovers.{changed_read, kept_itself, stays_itself, tablet_read, with_rows}
 use Rattle.rk_master.proofs.Places.{there_too}

@@ -32,7 +32,8 @@ use Rattle.rk_world.specs.Pulls.{batch_taken, got_taken, hashes_resolved, is_tok
 use Rattle.rk_world.specs.RoleTests.{is_receiving}
 use Rattle.rk_world.specs.SideLogs.{sealed_sides}
 use Rattle.rk_master.specs.declared.pulled.TheConstants.{MOST_SEALED}
-use Rattle.rk_master.specs.Pulls.{asked_for, awaits, CanClose, DoesPull, no_sides, with_resolved, with_sealed, with_token}
+use Rattle.rk_tablet.specs.Pulls.{asked_for, awaits, no_sides, with_resolved, with_sealed, with_token}
+use Rattle.rk_master.specs.Pulls.{CanClose, DoesPull}
 use Rattle.rk_master.specs.Sides.{side_items}
 use Rattle.rk_master.proofs.Closable.{closable_at, closing_joined}
 use Rattle.rk_master.proofs.Handovers.{changed_read, set_there, tablet_read, with_rows}

@@ -2,7 +2,8 @@
 use Rattle.std.proofs.Common.{◌≡◌, ℕ, zero, suc, ◌+◌, ◌<◌, ◌≤◌, List, [], ◌∷◌, length, drop, get_or, map, min, sum, refl, ap, ◌∙◌, arith}
 use Rattle.std.specs.List.{fold}
 use Rattle.rk_world.specs.Master.{unsealed_bytes}
-use Rattle.rk_master.specs.Parts.{tablet_of, tablets_of}
+use Rattle.rk_tablet.specs.Tablets.{tablet_of}
+use Rattle.rk_master.specs.Parts.{tablets_of}
 use Rattle.rk_master.specs.Places.{Row}
 use Rattle.rk_master.proofs.Places.{drop_next}
 

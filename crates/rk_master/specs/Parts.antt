@@ -1,5 +1,5 @@
 -- What the parts of a master in code stand for.
-use Rattle.std.specs.Prelude.{IfSome, ⊤, ℕ, ◌==◌, ◌&&◌, not, if◌then◌else◌, List, [], ◌∷◌, ◌++◌, Option, Some, None, is_some, map, unwrap_or}
+use Rattle.std.specs.Prelude.{IfSome, ⊤, ℕ, ◌==◌, ◌&&◌, not, if◌then◌else◌, List, [], ◌∷◌, ◌++◌, Option, Some, None, map}
 use Rattle.std.specs.Int.{w64}
 use Rattle.std.specs.List.{AllByRecursion}
 use Rattle.rk_types.specs.declared.held.Held.{Held}
@@ -18,32 +18,14 @@ use Rattle.rk_transfer.specs.declared.handover.Handover.{Handover}
 use Rattle.rk_transfer.specs.declared.role.Role.{Role}
 use Rattle.rk_transfer.specs.declared.role.Role.TheVariants as roles
 use Rattle.rk_message.specs.declared.handover.Grant.{Grant}
-use Rattle.rk_world.specs.Gather.{no_gather}
 use Rattle.rk_world.specs.Tablet.{Tablet, no_tablet}
 use Rattle.rk_world.specs.Master.{Master, tablet_at}
 use Rattle.rk_world.specs.Handovers.{carried_entry, given_up}
 use Rattle.rk_world.specs.Worked.{Worked}
 use Rattle.rk_world.specs.declared.work.Mark.{Mark}
 use Rattle.rk_master.specs.declared.work.Worked.{Worked as Work}
-use Rattle.rk_master.specs.declared.choice.Seen.{Seen}
-use Rattle.rk_master.specs.declared.tablet_lane.TabletLane.{TabletLane}
-
--- the tablet
-abbrev pub tablet_of : TabletLane → Tablet
-tablet_of lane = record {
-  handover = lane.handover;
-  completions = lane.completions.completions;
-  pulling = record {
-    source = lane.source;
-    token = lane.progress;
-    batches = lane.batches;
-    hashes = lane.wanted;
-    sides = lane.sides;
-    sealed = lane.sealed;
-  };
-  gather = unwrap_or lane.gather no_gather;
-  merged_ends = lane.merged_ends;
-}
+use Rattle.rk_tablet.specs.Tablets.{tablet_of}
+use Rattle.rk_tablet.specs.declared.tablet_lane.TabletLane.{TabletLane}
 
 -- the tablets by number
 abbrev pub tablets_of : List (ℕ × TabletLane) → NumberMap Tablet
@@ -52,11 +34,6 @@ tablets_of tablets = map (λ entry. (entry.0, tablet_of entry.1)) tablets
 -- what the master has of the tablet of a number
 abbrev pub tablet_in : List (ℕ × TabletLane) → ℕ → Tablet
 tablet_in tablets number = get_or no_tablet (tablets_of tablets) number
-
--- what a mutation sees of an item
-abbrev pub seen_of : Option Held → Option Seen
-seen_of None = None
-seen_of (Some item) = Some (record { version = item.version; is_live = is_some item.value })
 
 -- the pieces of a log that a rebuild made, of which there is one at most
 abbrev pub marks_of : Option Mark → List Mark

@@ -1,15 +1,12 @@
--- What the messages of a pull need, what a source answers, and what a target's tablet becomes.
-use Rattle.std.specs.Prelude.{◌≡◌, ℕ, ◌+◌, ◌<◌, ◌^◌, ◌++◌, ◌&&◌, Bool, List, [], ◌∷◌, length, slice_get, slice_set, Some}
+-- What the messages of a pull need, what a source answers, and what is so at the place of a target's tablet.
+use Rattle.std.specs.Prelude.{◌≡◌, ℕ, ◌+◌, ◌++◌, List, slice_get, Some}
 use Rattle.std.specs.List.{All, flat_map}
-use Rattle.rk_types.specs.declared.held.Held.{Held}
-use Rattle.rk_types.specs.declared.held.Token.{Token}
 use Rattle.rk_types.specs.declared.node.Node.{Node}
 use Rattle.rk_types.specs.declared.range.Range.{Range}
 use Rattle.rk_entry.specs.declared.entry.Entry.{Entry}
 use Rattle.rk_entry.specs.Lawful.{IsLawfulEntry, IsLawfulHeld}
 use Rattle.rk_table.specs.Items.{at_hash, live_in}
 use Rattle.rk_table.specs.Scans.{batch_at, next_token}
-use Rattle.rk_priority.specs.Hashes.{got, is_batch, no_hashes}
 use Rattle.rk_transfer.specs.declared.role.Role.TheVariants as roles
 use Rattle.rk_pull.specs.declared.batches.TheConstants.{BATCH_BYTES}
 use Rattle.rk_log.specs.Log.{Log}
@@ -22,12 +19,9 @@ use Rattle.rk_message.specs.declared.pulling.Want.{Want}
 use Rattle.rk_world.specs.Ends.{items_of}
 use Rattle.rk_world.specs.Master.{Master}
 use Rattle.rk_world.specs.Material.{as_entries}
-use Rattle.rk_world.specs.Pulls.{is_token, with_pulling}
-use Rattle.rk_world.specs.RoleTests.{is_receiving_at}
-use Rattle.rk_world.specs.Tablet.{Tablet}
 use Rattle.rk_world.specs.Waiting.{joined_entry}
 use Rattle.rk_world.specs.Worked.{from_master}
-use Rattle.rk_master.specs.Parts.{tablet_of}
+use Rattle.rk_tablet.specs.Tablets.{tablet_of}
 use Rattle.rk_master.specs.Places.{Row}
 
 -- the items among entries that were pulled can be spelled
@@ -54,30 +48,6 @@ want_answer master to range want =
       entries = as_entries (flat_map (λ hash. at_hash hash (live_in range master.records)) want.hashes);
     }))
 
--- the tablet, whose worker has these items
-abbrev pub with_side : Tablet → ℕ → List Held → Tablet
-with_side tablet worker items =
-    with_pulling tablet (record tablet.pulling { sides = slice_set tablet.pulling.sides worker items })
-
--- the tablet, whose token moved on behind one more batch
-abbrev pub with_token : Tablet → Token → Tablet
-with_token tablet next =
-    with_pulling tablet (record tablet.pulling { token = next; batches = tablet.pulling.batches + 1 })
-
--- the tablet, for which these hashes have come
-abbrev pub with_resolved : Tablet → List ℕ → Tablet
-with_resolved tablet hashes =
-    with_pulling tablet (record tablet.pulling { hashes = got tablet.pulling.hashes hashes })
-
--- no worker has an item
-abbrev pub no_sides : List (List Held)
-no_sides = [] ∷ [] ∷ [] ∷ [] ∷ []
-
--- the tablet, whose side logs are so and became the side segments of these numbers; no hash is wanted any more
-abbrev pub with_sealed : Tablet → List (List Held) → List ℕ → Tablet
-with_sealed tablet sides numbers =
-    with_pulling tablet (record tablet.pulling { hashes = no_hashes; sides = sides; sealed = numbers })
-
 -- the tablet at a place pulls
 abbrev pub DoesPull : List Row → ℕ → Type 0
 DoesPull rows place = (row : Row) → slice_get rows place ≡ Some row → row.1.handover.role ≡ roles.Receiving
@@ -89,13 +59,3 @@ CanClose rows place = (row : Row) → slice_get rows place ≡ Some row → IsLa
 -- the log with these side segments beside it
 abbrev pub with_sides : Log → List (List ℕ) → Log
 with_sides log segments = record log { sides = log.sides ++ segments }
-
--- whether a tablet pulls at the term of a batch, and awaits that one
-abbrev pub awaits : Tablet → Pulled → Bool
-awaits tablet pulled =
-    is_receiving_at tablet pulled.tenure.term && is_token pulled.token tablet.pulling.token
-
--- whether a tablet pulls at the term of a Got, and asked for its hashes
-abbrev pub asked_for : Tablet → Got → Bool
-asked_for tablet message =
-    is_receiving_at tablet message.tenure.term && is_batch tablet.pulling.hashes.outstanding message.hashes

@@ -1,5 +1,5 @@
 -- What a rebuild needs of a master in code, and what it takes of the own log.
-use Rattle.std.specs.Prelude.{◌≡◌, ℕ, ◌-◌, Bool, true, ◌==◌, ◌&&◌, nat_lt, if◌then◌else◌, List, [], drop, fold, slice_index_or, Option, Some, None}
+use Rattle.std.specs.Prelude.{◌≡◌, ℕ, ◌-◌, true, nat_lt, if◌then◌else◌, List, [], drop, fold, slice_index_or}
 use Rattle.std.specs.List.{All}
 use Rattle.rk_types.specs.NumberMap.{NumberMap, get_or, insert}
 use Rattle.rk_types.specs.declared.held.Held.{Held}
@@ -10,17 +10,8 @@ use Rattle.rk_entry.specs.Lists.{is_among}
 use Rattle.rk_entry.specs.declared.entry.Entry.{Entry}
 use Rattle.rk_entry.specs.declared.lists.TheConstants.{FIRST_SIDE_SEGMENT}
 use Rattle.rk_log.specs.Log.{Log, with_entry}
-use Rattle.rk_transfer.specs.declared.role.Role.{Role}
-use Rattle.rk_transfer.specs.declared.role.Role.TheVariants as roles
-use Rattle.rk_message.specs.declared.rebuilding.CopySegment.{CopySegment}
-use Rattle.rk_world.specs.declared.work.Merged.{Merged}
-use Rattle.rk_world.specs.declared.work.Reading.{Reading}
-use Rattle.rk_world.specs.Gather.{Gather, by_member, is_awaited, next_reading}
 use Rattle.rk_world.specs.Master.{Master}
 use Rattle.rk_world.specs.Material.{as_entries, material_of, side_entries}
-use Rattle.rk_world.specs.Merge.{merge}
-use Rattle.rk_world.specs.RoleTests.{is_gathering}
-use Rattle.rk_world.specs.Tablet.{Tablet, pulling_from}
 use Rattle.rk_master.specs.Sides.{items_of_sides}
 
 -- each entry of its log can be spelled
@@ -47,27 +38,3 @@ AreRead read sides numbers = (number : ℕ) → is_among number numbers ≡ true
 -- what counts for a range of a log from a place on
 abbrev pub own_counted : Log → Range → ℕ → List Entry
 own_counted log range from = material_of range (side_entries (items_of_sides log.sides)) (drop from log.entries)
-
--- what a tablet merges of what it gathered and of own entries that count
-abbrev pub merged_with : Tablet → List Entry → Merged
-merged_with tablet own = merge own (by_member tablet.gather own)
-
--- the place from which the own log counts, of a tablet in this role that has this to read next; none while there is a segment to
--- read, and in other roles
-abbrev pub gathered_from : Role → Option Reading → Option ℕ
-gathered_from (roles.Rebuilding from None) None = Some from
-gathered_from role reading = None
-
--- whether a tablet gathers at the term of this copy of a segment, and awaits just that
-abbrev pub is_awaiting : Tablet → CopySegment → Bool
-is_awaiting tablet copy =
-    is_gathering tablet.handover.role && (tablet.handover.term == copy.tenure.term)
-    && is_awaited (next_reading tablet.gather) copy.master copy.segment
-
--- a tablet begins to gather: what was pulled and is not sealed, and what was merged, is dropped
-abbrev pub with_gather : Tablet → Gather → Tablet
-with_gather tablet gather = record tablet {
-  pulling = pulling_from tablet.pulling.source;
-  gather = gather;
-  merged_ends = [];
-}

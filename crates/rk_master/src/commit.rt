@@ -5,18 +5,18 @@ ghost use Rattle.rk_types.specs.declared.call.Ended.{Ended as Ending};
 ghost use Rattle.rk_bucket_table.specs.Tables.{items_of as records_of};
 ghost use Rattle.rk_world.specs.Commits.{apply_entries, apply_entry, newly_held, noting, with_applied, with_ended, with_entry_item};
 ghost use Rattle.rk_world.specs.Ends.{end_of_item as item_end_lem, end_of_refusal as refusal_end_lem, told_by};
-ghost use Rattle.rk_master.specs.Parts.{AreTablets, behind, tablet_of, tablets_of, with_items_of, worked_of};
+ghost use Rattle.rk_tablet.specs.Tablets.{tablet_of};
+ghost use Rattle.rk_master.specs.Parts.{AreTablets, behind, tablets_of, with_items_of, worked_of};
 ghost use Rattle.rk_master.specs.State.{IsState, master_of};
 
-use crate::choice::outcome_of;
 use crate::effects::answering;
 use crate::state::MasterState;
-use crate::tablet_lane::TabletLane;
 use crate::work::Worked;
 use rk_bucket_table::BucketTable;
 use rk_entry::{Entry, Refused};
 use rk_log::MasterLog;
 use rk_table::RecordTable;
+use rk_tablet::{TabletLane, outcome_of};
 use rk_types::{Answer, Call, End, Ended, Held, NoMemory};
 
 // The first end that an entry tells.
@@ -60,19 +60,6 @@ fn end_of_refusal(refused: &Refused) -> End
     }
 }
 
-// Notes the end of a call in a tablet, where that is not absent and has the key. One binary search, and for the first
-// call of a client what an insertion takes.
-fn note(tablet: &mut TabletLane, call: &Call, end: Ended) -> Result<(), NoMemory>
-    ensures { OnOk result (tablet_of tablet.new ≡ noting call.now end (tablet_of tablet.old)) }
-{
-    if tablet.is_absent() || !tablet.has_key(call.table, &call.key) {
-        return Ok(());
-    }
-    tablet.completions.reserve(1)?;
-    tablet.completions.note(end);
-    Ok(())
-}
-
 // Notes the end of a call in each tablet that is not absent and has the key. A look at each tablet.
 fn note_in_each(tablets: &mut [(u32, TabletLane)], call: &Call, end: Ended) -> Result<(), NoMemory>
     requires { AreTablets tablets.old }
@@ -80,7 +67,7 @@ fn note_in_each(tablets: &mut [(u32, TabletLane)], call: &Call, end: Ended) -> R
     ensures tablets { OnOk result (AreTablets tablets.new) }
 {
     for entry in tablets.iter_mut() {
-        note(&mut entry.1, call, end)?;
+        entry.1.note(call, end)?;
     }
     Ok(())
 }

@@ -7,14 +7,15 @@ ghost use Rattle.rk_world.specs.Master.{Master};
 ghost use Rattle.rk_world.specs.MasterTurn as turns;
 ghost use Rattle.rk_world.specs.Tablet.{Tablet};
 ghost use Rattle.rk_world.specs.Worked.{changed};
-ghost use Rattle.rk_master.specs.Parts.{behind, tablet_of, tablets_of, worked_of};
+ghost use Rattle.rk_tablet.specs.Tablets.{tablet_of};
+ghost use Rattle.rk_master.specs.Parts.{behind, tablets_of, worked_of};
 ghost use Rattle.rk_master.specs.Places.{Row};
 ghost use Rattle.rk_master.specs.State.{IsState, master_of};
 
 use crate::state::MasterState;
-use crate::tablet_lane::TabletLane;
 use crate::work::Worked;
 use rk_message::{Body, Message, Pull, ReadSegment, Rebuilt, Tenure, Want};
+use rk_tablet::TabletLane;
 use rk_transfer::Role;
 use rk_types::{Listed, NoMemory, Node};
 

@@ -1,31 +1,26 @@
 //! A master in one lane: what it makes of clients' requests, of what backups tell, of what other masters ask and tell, and
 //! of the coordinator's orders that hand a tablet over or rebuild it.
 //!
-//! It stands on `rk_world`, whose definitions say what a master does. What it promises: [`MasterLane::handle`] makes of a
-//! message just what the definitions do: the master after it, what it sends, which calls it served, and which piece of its
-//! log a rebuild made. On its [`MasterLane::turn`] it sends each backup what that lacks, and does for each tablet what its
-//! role asks for. Neither requests nor commits nor turns walk over the log, the staged calls or the clients, and no pull
-//! over the records: tablets are looked at, and all else is found by searches. After want of memory within a change a
-//! master is spent, and answers no more.
+//! It stands on `rk_world`, whose definitions say what a master does, and on `rk_tablet`, which is what it has of one tablet.
+//! What it promises: [`MasterLane::handle`] makes of a message just what the definitions do: the master after it, what it
+//! sends, which calls it served, and which piece of its log a rebuild made. On its [`MasterLane::turn`] it sends each backup
+//! what that lacks, and does for each tablet what its role asks for. Neither requests nor commits nor turns walk over the
+//! log, the staged calls or the clients, and no pull over the records: tablets are looked at, and all else is found by
+//! searches. After want of memory within a change a master is spent, and answers no more.
 #![tactic(auto)]
 
-pub use choice::Seen;
 pub use master_lane::MasterLane;
 pub use staging::MOST_LOG_BYTES;
-pub use tablet_lane::{MOST_VERSIONS, TabletLane};
 pub use work::Worked;
 
-mod choice;
 mod commit;
 mod duties;
 mod effects;
-mod gathering;
 mod master_lane;
 mod messages;
 mod orders;
 mod own_entries;
 mod pulled;
-mod pulling;
 mod pulls;
 mod rebuilds;
 mod requests;
@@ -34,7 +29,6 @@ mod staging;
 mod state;
 mod stored;
 mod sums;
-mod tablet_lane;
 mod tablets;
 mod turn;
 mod waiting;

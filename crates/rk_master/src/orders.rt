@@ -1,7 +1,6 @@
 // What a master makes of the coordinator's orders that hand a tablet over. Each finds its tablet by a binary search; one
 // that the master does not know is Absent at term 0, and no order but a Prepare applies to that.
-ghost use Rattle.std.specs.Prelude.{◌≡◌, ◌<◌, [], IfOk, OnOk};
-ghost use Rattle.rk_done.specs.Completions.{completions_from};
+ghost use Rattle.std.specs.Prelude.{◌≡◌, ◌<◌, IfOk, OnOk};
 ghost use Rattle.rk_transfer.specs.Handover.{closed};
 ghost use Rattle.rk_types.specs.NumberMap.{IsInOrder};
 ghost use Rattle.rk_world.specs.Handovers as handovers;
@@ -16,13 +15,12 @@ use crate::state::MasterState;
 use crate::tablets::{give_up_others, hand, handover_of, is_above_all, search};
 use crate::waiting::freeze_at;
 use crate::work::Worked;
-use rk_done::Completions;
 use rk_entry::{Carried, Entry};
 use rk_message::{Body, Grant, Message, Prepare, Ready, Tenure};
 use rk_table::RecordTable;
+use rk_tablet::completions_of;
 use rk_transfer::{Handover, Role};
-use rk_types::{Ended, NoMemory, Node};
-use std::alloc::Global;
+use rk_types::{NoMemory, Node};
 
 /// A master takes a Close: the tablet answers no more calls, and once nothing of it is staged its Transfer is told, also
 /// again. One binary search, a step for each staged entry, and one for each client where the Transfer is told.
@@ -198,18 +196,6 @@ fn receive(state: &mut MasterState, at: usize, grant: &Grant) -> Result<(), NoMe
     let entry = carried_entry(handover, grant)?;
     append(&mut state.log, &mut state.staged, entry)?;
     Ok(())
-}
-
-/// The completions after these ends. A search for each of them, and for the first of a client what an insertion takes.
-pub(crate) fn completions_of(alloc: Global, ends: &[Ended]) -> Result<Completions, NoMemory>
-    ensures { IfOk result (λ it. it.completions ≡ completions_from [] ends.now) }
-{
-    let mut completions = Completions::new(alloc);
-    completions.reserve(ends.len())?;
-    for end in ends {
-        completions.note(*end);
-    }
-    Ok(completions)
 }
 
 // The entry that begins what a target has of a tablet.

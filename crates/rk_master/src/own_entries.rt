@@ -1,15 +1,16 @@
 // What a rebuild takes of the master's own log: its entries from a place on, and the side segments that they name.
 ghost use Rattle.std.specs.Prelude.{◌≡◌, ◌<◌, ◌^◌, drop, IfOk, OnOk};
 ghost use Rattle.rk_log.specs.Log.{segment_bytes};
-ghost use Rattle.rk_master.specs.Parts.{tablet_of};
-ghost use Rattle.rk_master.specs.Rebuilding.{AreRead, merged_with, own_counted, side_read as side_read_lem, with_side_read};
+ghost use Rattle.rk_tablet.specs.Tablets.{tablet_of};
+ghost use Rattle.rk_tablet.specs.Rebuilding.{merged_with};
+ghost use Rattle.rk_master.specs.Rebuilding.{AreRead, own_counted, side_read as side_read_lem, with_side_read};
 ghost use Rattle.rk_master.specs.Sides.{AreSpelled};
 
 use crate::staging::MOST_LOG_BYTES;
-use crate::tablet_lane::TabletLane;
 use rk_entry::{Entry, FIRST_SIDE_SEGMENT, entries};
 use rk_log::MasterLog;
 use rk_rebuild::{counted_entries, lend_each, named};
+use rk_tablet::TabletLane;
 use rk_types::{Listed, NoMemory, Numbered};
 use rk_world::Merged;
 use std::alloc::Global;

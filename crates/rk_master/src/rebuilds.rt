@@ -7,14 +7,14 @@ ghost use Rattle.rk_world.specs.Rebuilds as rebuilds;
 ghost use Rattle.rk_world.specs.RoleTests.{is_gathering};
 ghost use Rattle.rk_master.specs.Parts.{tablet_in, worked_of};
 ghost use Rattle.rk_types.specs.Places.{IsAt};
-ghost use Rattle.rk_master.specs.Rebuilding.{CanBeSpelled, is_awaiting};
+ghost use Rattle.rk_tablet.specs.Rebuilding.{is_awaiting};
+ghost use Rattle.rk_master.specs.Rebuilding.{CanBeSpelled};
 ghost use Rattle.rk_master.specs.State.{IsState, master_of};
 
-use crate::gathering::begin_gather;
 use crate::own_entries::merged;
 use crate::staging::{append, append_items};
 use crate::state::MasterState;
-use crate::tablets::{give_up_others, hand, handover_of, is_above_all, search};
+use crate::tablets::{begin_gather, give_up_others, hand, handover_of, is_above_all, search};
 use crate::work::Worked;
 use rk_message::{CopySegment, Rebuild};
 use rk_rebuild::Gather;

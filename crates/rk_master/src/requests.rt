@@ -9,13 +9,13 @@ ghost use Rattle.rk_master.specs.Parts.{worked_of};
 ghost use Rattle.rk_master.specs.Choices.{IsFit};
 ghost use Rattle.rk_master.specs.State.{IsState, master_of};
 
-use crate::choice::outcome_of;
 use crate::effects::{answering, call_of};
 use crate::staging::{stage_refusal, stage_write};
 use crate::state::MasterState;
 use crate::tablets::want;
 use crate::work::Worked;
 use rk_message::Request;
+use rk_tablet::outcome_of;
 use rk_types::{Answer, Call, NoMemory, Outcome, Value, hash};
 use rk_world::Choice;
 

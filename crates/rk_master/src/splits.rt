@@ -3,13 +3,13 @@ ghost use Rattle.std.specs.Prelude.{◌≡◌, ◌<◌, OnOk};
 ghost use Rattle.rk_types.specs.NumberMap.{insert};
 ghost use Rattle.rk_world.specs.Ranges as ranges;
 ghost use Rattle.rk_world.specs.Splits as splits;
-ghost use Rattle.rk_master.specs.Parts.{AreTablets, IsClosable, tablet_of, tablets_of};
+ghost use Rattle.rk_tablet.specs.Tablets.{tablet_of};
+ghost use Rattle.rk_master.specs.Parts.{AreTablets, IsClosable, tablets_of};
 ghost use Rattle.rk_master.specs.State.{IsState, master_of};
 
 use crate::state::MasterState;
-use crate::tablet_lane::TabletLane;
 use crate::tablets::{hand, search};
-use rk_transfer::{Handover, Role};
+use rk_tablet::{TabletLane, half_of};
 use rk_types::{NoMemory, Range};
 
 /// The tablet of this number is split at a hash, where both parts have one: both are served from now on at this term, the
@@ -68,18 +68,6 @@ fn range_from(range: Range, at: u64) -> Range
         table: range.table,
         first: at,
         last: range.last,
-    }
-}
-
-/// What a part of a tablet that had this handover has: it is served with this range at this term, and its counter goes on.
-pub(crate) fn half_of(before: Handover, range: Range, term: u64) -> Handover
-    ensures { result ≡ record { role = Role.Serving; term = term; range = range; counter = before.counter } }
-{
-    Handover {
-        role: Role::Serving,
-        term,
-        range,
-        counter: before.counter,
     }
 }
 

@@ -7,7 +7,7 @@ ghost use Rattle.rk_master.specs.Parts.{tablets_of};
 ghost use Rattle.rk_master.specs.State.{master_of};
 
 use crate::state::MasterState;
-use crate::tablet_lane::TabletLane;
+use rk_tablet::TabletLane;
 
 /// How many bytes a master's segments have, and those of side logs that are not sealed; 2^64 - 1 where they are more. A look
 /// at each tablet.

@@ -1,17 +1,21 @@
 // The tablets of a master, by rising number.
-ghost use Rattle.std.specs.Prelude.{◌≡◌, ◌≢◌, None, map, IsSome, IfOk, IfErr, OnOk, OnErr};
+ghost use Rattle.std.specs.Prelude.{◌≡◌, ◌≢◌, true, None, map, IsSome, IfOk, IfErr, OnOk, OnErr};
 ghost use Rattle.std.specs.Int.{w64};
 ghost use Rattle.std.specs.List.{list_all};
 ghost use Rattle.rk_types.specs.NumberMap.{IsInOrder, get, insert};
 ghost use Rattle.rk_entry.specs.Numbers.{IsNumber};
 ghost use Rattle.rk_priority.specs.Hashes.{is_waiting as is_waiting_lem};
+ghost use Rattle.rk_world.specs.RoleTests.{is_gathering as is_gathering_lem};
 ghost use Rattle.rk_world.specs.Tablet.{no_tablet, with_handover, without_merged};
 ghost use Rattle.rk_world.specs.Handovers.{is_above};
 ghost use Rattle.rk_world.specs.Requests.{counted_up, with_wanted};
-ghost use Rattle.rk_master.specs.Parts.{AreTablets, changing, given_up_but, served, tablet_in, tablet_of, tablets_of};
+ghost use Rattle.rk_tablet.specs.Tablets.{tablet_of};
+ghost use Rattle.rk_tablet.specs.Rebuilding.{with_gather};
+ghost use Rattle.rk_master.specs.Parts.{AreTablets, changing, given_up_but, served, tablet_in, tablets_of};
 ghost use Rattle.rk_types.specs.Places.{IsAt, IsBetween};
 
-use crate::tablet_lane::TabletLane;
+use rk_rebuild::Gather;
+use rk_tablet::TabletLane;
 use rk_transfer::{Handover, Role};
 use rk_types::{NoMemory, Range};
 
@@ -77,6 +81,19 @@ pub(crate) fn want(
     let tablet = &mut tablets[at].1;
     tablet.want(hash)?;
     Ok(())
+}
+
+/// The tablet of this number, which is there to be rebuilt, begins to gather. One binary search.
+pub(crate) fn begin_gather(tablets: &mut [(u32, TabletLane)], number: u32, gather: Gather)
+    requires tablets { AreTablets tablets.old }
+    requires there { IsSome (get tablets.old number) }
+    requires role { is_gathering_lem (tablet_in tablets.old number).handover.role ≡ true }
+    ensures gathers { tablets_of tablets.new ≡ insert (tablets_of tablets.old) number (with_gather (tablet_in tablets.old number) gather) }
+    ensures tablets { AreTablets tablets.new }
+{
+    let at = place_of(tablets, number);
+    let tablet = &mut tablets[at].1;
+    tablet.begin_gather(gather);
 }
 
 /// The handover of the tablet of this number; of one that is not there the role is Absent and the term 0. One binary

@@ -7,17 +7,17 @@ ghost use Rattle.rk_transfer.specs.Handover.{frozen};
 ghost use Rattle.rk_world.specs.Ranges.{has_key as has_key_lem};
 ghost use Rattle.rk_world.specs.Master.{touches as touches_lem};
 ghost use Rattle.rk_world.specs.Waiting as waiting;
-ghost use Rattle.rk_master.specs.Parts.{tablet_of};
+ghost use Rattle.rk_tablet.specs.Tablets.{tablet_of};
 ghost use Rattle.rk_types.specs.Places.{IsAt};
 ghost use Rattle.rk_master.specs.Places.{Row};
 ghost use Rattle.rk_master.specs.State.{IsState, master_of};
 
 use crate::staging::append;
 use crate::state::MasterState;
-use crate::tablet_lane::TabletLane;
 use rk_entry::Entry;
 use rk_log::MasterLog;
 use rk_staged::StagedEntries;
+use rk_tablet::TabletLane;
 use rk_transfer::Role;
 use rk_types::{Key, NoMemory, Range, hash};
 

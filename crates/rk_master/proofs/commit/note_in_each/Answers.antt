@@ -11,8 +11,8 @@ loop-entry-preserved c =
     let within : i < length rows = omega (arith, c.loop-entry-test.true, c.loop-entry.auto.tablets) in
     record {
       tablets =
-          lawful_set rows i row c.note.new.tablet within c.loop-entry.invariant.tablets
+          lawful_set rows i row c.note.new.self within c.loop-entry.invariant.tablets
           (subst IsClosable (sym c.in_ok-note.ensures)
           (noted_closable c.args.call.now c.args.end (tablet_of (get_or rows i row).1) (closable_at rows i row within c.loop-entry.invariant.tablets.closable)));
-      rest = changed_next (λ number. noting c.args.call.now c.args.end) rows i row c.note.new.tablet within c.in_ok-note.ensures ∙ c.loop-entry.invariant.rest;
+      rest = changed_next (λ number. noting c.args.call.now c.args.end) rows i row c.note.new.self within c.in_ok-note.ensures ∙ c.loop-entry.invariant.rest;
     }

@@ -3,7 +3,8 @@ use Rattle.rk_master.proofs.Words.{own_counted}
 use denote.Ref.{Bor}
 use Rattle.rk_rebuild.specs.Lent.{lent}
 use Rattle.rk_world.specs.Material.{named}
-use Rattle.rk_master.specs.Rebuilding.{AreRead, merged_with}
+use Rattle.rk_tablet.specs.Rebuilding.{merged_with}
+use Rattle.rk_master.specs.Rebuilding.{AreRead}
 use Rattle.rk_master.proofs.OwnEntries.{own_counts}
 use Rattle.rk_master.proofs.own_entries.merged.Goals as goal
 

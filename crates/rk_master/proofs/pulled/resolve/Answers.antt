@@ -2,7 +2,7 @@ use Rattle.rk_master.proofs.Words.{◌≡◌, ◌<◌, ◌&&◌, true, false, Bo
 use Rattle.rk_master.proofs.Words.{IsLawfulHeld, is_batch, Replayed, side_replayed, records_of, NumberMap, Master, Tablet, changed}
 use Rattle.rk_master.proofs.Words.{TabletLane, IsClosable, tablet_of, Row, with_side, master_of}
 use Rattle.rk_world.specs.RoleTests.{is_receiving_at}
-use Rattle.rk_master.specs.Pulls.{with_resolved}
+use Rattle.rk_tablet.specs.Pulls.{with_resolved}
 use Rattle.rk_master.proofs.Closable.{lawful_read}
 use Rattle.rk_master.proofs.Handovers.{tablet_read}
 use Rattle.rk_master.proofs.Receiving.{closable_read, got_failed, got_made, got_resolved, not_resolved, same_tablets}

@@ -3,7 +3,7 @@ use Rattle.rk_master.proofs.Words.{FIRST_SIDE_SEGMENT, Log, spelled_items, Held,
 use Rattle.rk_master.proofs.Words.{tablet_of, Row, with_sides, AreSpelled, master_of}
 use Rattle.rk_side_log.proofs.CutItems.{sealed_lawful}
 use Rattle.rk_world.specs.SideLogs.{sealed_sides}
-use Rattle.rk_master.specs.Pulls.{with_sealed}
+use Rattle.rk_tablet.specs.Pulls.{with_sealed}
 use Rattle.rk_master.proofs.Closable.{closable_as, lawful_read}
 use Rattle.rk_master.proofs.Handovers.{at_set}
 use Rattle.rk_master.proofs.Receiving.{closable_read, closes_set, joined_lawful, names_itself, pulls_still, read_there, sealing_made, spelled_added}

@@ -3,7 +3,7 @@ use Rattle.rk_master.proofs.Words.{TabletLane, IsClosable, tablet_of, Row, with_
 use Rattle.std.proofs.Common.{◌%◌}
 use Rattle.rk_table.specs.Scans.{end}
 use Rattle.rk_world.specs.Pulls.{is_token, replay, token_passed}
-use Rattle.rk_master.specs.Pulls.{with_token}
+use Rattle.rk_tablet.specs.Pulls.{with_token}
 use Rattle.rk_master.proofs.Closable.{lawful_read}
 use Rattle.rk_master.proofs.Handovers.{at_set, tablet_read}
 use Rattle.rk_master.proofs.Receiving.{batch_made, closable_read, pulls_still}

@@ -1,5 +1,5 @@
 use Rattle.rk_master.proofs.Words.{List, sym, ap, ◌∙◌, subst, Tablet, TabletLane, IsAt, Row, master_of}
-use Rattle.rk_master.specs.Rebuilding.{is_awaiting}
+use Rattle.rk_tablet.specs.Rebuilding.{is_awaiting}
 use Rattle.rk_master.proofs.Closable.{lawful_read}
 use Rattle.rk_master.proofs.Handovers.{none_lent, tablet_read}
 use Rattle.rk_master.proofs.Rebuilt.{closable_same, gathered_at, ignored_at}

@@ -1,5 +1,6 @@
-use Rattle.rk_master.proofs.Words.{◌≡◌, ◌≤◌, ◌+◌, [], length, drop, completions_from}
-use Rattle.rk_master.proofs.orders.completions_of.Given as goal
+use Rattle.std.specs.Prelude.{◌≡◌, ◌≤◌, ◌+◌, [], length, drop}
+use Rattle.rk_done.specs.Completions.{completions_from}
+use Rattle.rk_tablet.proofs.gathering.completions_of.Given as goal
 
 abbrev pub invariant-loop-end : goal.invariant-loop-end
 invariant-loop-end l = record {

@@ -6,7 +6,7 @@ ghost use Rattle.rk_overlay.specs.Live.{record_of};
 ghost use Rattle.rk_types.specs.declared.held.Held.{Held as Item};
 ghost use Rattle.rk_world.specs.Ends.{outcome_of as outcome_of_lem};
 ghost use Rattle.rk_world.specs.Requests as requests;
-ghost use Rattle.rk_master.specs.Parts.{seen_of, tablet_of};
+ghost use Rattle.rk_tablet.specs.Tablets.{seen_of, tablet_of};
 ghost use Rattle.rk_world.specs.RoleTests.{is_receiving as is_receiving_lem};
 
 use crate::tablet_lane::TabletLane;
@@ -15,14 +15,14 @@ use rk_types::{Call, End, Held, NoMemory, Op, Outcome, hash};
 use rk_world::Choice;
 
 /// Whether an operation is a mutation: all but a read are.
-pub(crate) fn is_mutation(op: &Op) -> bool
+pub fn is_mutation(op: &Op) -> bool
     ensures { result ≡ is_mutation_lem op.now }
 {
     !matches!(op, Op::Get)
 }
 
-/// Whether an operation needs to know what is there: all but a put do.
-pub(crate) fn needs_state(op: &Op) -> bool
+// Whether an operation needs to know what is there: all but a put do.
+fn needs_state(op: &Op) -> bool
     ensures { result ≡ requests.needs_state op.now }
 {
     !matches!(op, Op::Put(_))
@@ -35,8 +35,8 @@ pub(crate) fn is_receiving(role: Role) -> bool
     matches!(role, Role::Receiving)
 }
 
-/// What a read tells of an item.
-pub(crate) fn read_of(there: Option<&Held>) -> Result<Outcome, NoMemory>
+// What a read tells of an item.
+fn read_of(there: Option<&Held>) -> Result<Outcome, NoMemory>
     ensures { IfOk result (λ outcome. outcome ≡ requests.read_of (record_of (option_copied there.entry))) }
 {
     let Some(held) = there else {
@@ -57,7 +57,7 @@ pub struct Seen {
 
 impl Seen {
     /// What a mutation sees of an item.
-    pub(crate) fn new(held: &Held) -> Seen
+    pub fn new(held: &Held) -> Seen
         ensures { Some result ≡ seen_of (Some held.now) }
     {
         Seen {
@@ -87,8 +87,8 @@ fn sees_record(seen: Option<Seen>) -> bool
     }
 }
 
-/// What a mutation does at a tablet, by what it sees.
-pub(crate) fn mutation(tablet: u32, op: &Op, seen: Option<Seen>) -> Result<Choice, NoMemory>
+// What a mutation does at a tablet, by what it sees.
+fn mutation(tablet: u32, op: &Op, seen: Option<Seen>) -> Result<Choice, NoMemory>
     ensures { IfOk result (λ choice. (state : Option Item) → seen ≡ seen_of state → is_mutation_lem op.now ≡ true
         → choice ≡ requests.operation tablet op.now (record_of state)) }
 {
@@ -107,7 +107,7 @@ pub(crate) fn mutation(tablet: u32, op: &Op, seen: Option<Seen>) -> Result<Choic
 }
 
 /// What is done with a mutation that has not ended and is not staged.
-pub(crate) fn fresh_mutation(
+pub fn fresh_mutation(
     number: u32,
     tablet: &TabletLane,
     call: &Call,
@@ -123,7 +123,7 @@ pub(crate) fn fresh_mutation(
 }
 
 /// What is done with a read.
-pub(crate) fn fresh_read(
+pub fn fresh_read(
     number: u32,
     tablet: &TabletLane,
     call: &Call,
@@ -139,7 +139,7 @@ pub(crate) fn fresh_read(
 }
 
 /// The outcome that an end tells.
-pub(crate) fn outcome_of(end: End) -> Outcome
+pub fn outcome_of(end: End) -> Outcome
     ensures { result ≡ outcome_of_lem end }
 {
     match end {

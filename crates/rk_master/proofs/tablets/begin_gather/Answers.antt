@@ -1,7 +1,7 @@
 use Rattle.rk_master.proofs.Words.{◌≡◌, true, List, sym, ap, ◌∙◌, false≢true, is_gathering, Tablet, tablet_of, Row, with_gather}
 use Rattle.rk_master.proofs.Closable.{closable_else, lawful_set}
 use Rattle.rk_master.proofs.Places.{changed_so, tablet_there}
-use Rattle.rk_master.proofs.gathering.begin_gather.Goals as goal
+use Rattle.rk_master.proofs.tablets.begin_gather.Goals as goal
 
 pub returns-clause-gathers : goal.returns-clause-gathers
 returns-clause-gathers c =

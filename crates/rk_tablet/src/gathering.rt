@@ -1,8 +1,7 @@
 // What a tablet gathers for a rebuild, and what it becomes when the rebuild closes.
-ghost use Rattle.std.specs.Prelude.{◌≡◌, true, Some, IsSome, IfOk, OnOk, [], ◌&&◌, ◌==◌};
+ghost use Rattle.std.specs.Prelude.{◌≡◌, true, Some, IfOk, OnOk, [], ◌&&◌, ◌==◌};
 ghost use Rattle.std.specs.Bool.{OnTrue, OnFalse};
 ghost use Rattle.std.specs.Option.{option_map};
-ghost use Rattle.rk_types.specs.NumberMap.{get, insert};
 ghost use Rattle.rk_done.specs.Completions.{completions_from, ends_of};
 ghost use Rattle.rk_entry.specs.declared.entry.Entry.TheVariants as entries;
 ghost use Rattle.rk_rebuild.specs.Lent.{lent};
@@ -10,12 +9,11 @@ ghost use Rattle.rk_transfer.specs.Handover.{carried};
 ghost use Rattle.rk_world.specs.Gather as gathers;
 ghost use Rattle.rk_world.specs.Rebuilds.{with_gathered};
 ghost use Rattle.rk_world.specs.RoleTests.{is_gathering as is_gathering_lem};
-ghost use Rattle.rk_master.specs.Parts.{AreTablets, tablet_in, tablet_of, tablets_of};
-ghost use Rattle.rk_master.specs.Rebuilding.{gathered_from as gathered_from_lem, is_awaiting, merged_with, with_gather};
+ghost use Rattle.rk_tablet.specs.Tablets.{tablet_of};
+ghost use Rattle.rk_tablet.specs.Rebuilding.{gathered_from as gathered_from_lem, is_awaiting, merged_with, with_gather};
 
-use crate::orders::completions_of;
 use crate::tablet_lane::TabletLane;
-use crate::tablets::place_of;
+use rk_done::Completions;
 use rk_entry::{Carried, Entry};
 use rk_message::CopySegment;
 use rk_rebuild::Gather;
@@ -33,7 +31,7 @@ const NO_RANGE: Range = Range {
 
 impl TabletLane {
     /// The place from which the own log counts, where the tablet is rebuilt and has gathered all.
-    pub(crate) fn gathered_from(&self) -> Option<u64>
+    pub fn gathered_from(&self) -> Option<u64>
         ensures { result ≡ gathered_from_lem self.now.handover.role (gathers.next_reading (tablet_of self.now).gather) }
     {
         let Role::Rebuilding { from, entry: None } = self.handover.role else {
@@ -47,7 +45,7 @@ impl TabletLane {
 
     /// Takes the copy of a segment where the tablet awaits just that: whether it does. After `NoMemory` nothing has
     /// changed. A look at each member of the lineage, and a step for each entry of the segment, or of the log that it ends.
-    pub(crate) fn gather_segment(&mut self, copy: &CopySegment) -> Result<bool, NoMemory>
+    pub fn gather_segment(&mut self, copy: &CopySegment) -> Result<bool, NoMemory>
         ensures awaited { IfOk result (λ awaited. awaited ≡ is_awaiting (tablet_of self.old) copy.now) }
         ensures gathered { IfOk result (λ awaited. OnTrue awaited (tablet_of self.new ≡ with_gathered (tablet_of self.old) copy.now)) }
         ensures ignored { IfOk result (λ awaited. OnFalse awaited (tablet_of self.new ≡ tablet_of self.old)) }
@@ -72,7 +70,7 @@ impl TabletLane {
     }
 
     /// What a rebuild makes of what was gathered, and of these own entries that count.
-    pub(crate) fn merge(&self, alloc: Global, own: &[&Entry]) -> Result<Merged, NoMemory>
+    pub fn merge(&self, alloc: Global, own: &[&Entry]) -> Result<Merged, NoMemory>
         ensures { IfOk result (λ merged. merged ≡ merged_with (tablet_of self.now) (lent own.now)) }
     {
         let Some(gather) = &self.gather else {
@@ -83,7 +81,7 @@ impl TabletLane {
     }
 
     /// Begins to gather: what was pulled and is not sealed, and what was merged, is dropped.
-    pub(crate) fn begin_gather(&mut self, gather: Gather)
+    pub fn begin_gather(&mut self, gather: Gather)
         ensures { tablet_of self.new ≡ with_gather (tablet_of self.old) gather }
     {
         self.pull_from(self.source);
@@ -91,7 +89,7 @@ impl TabletLane {
     }
 
     /// A rebuild closes with these ends, at this place of the log: the entry that closes it.
-    pub(crate) fn close_rebuild(
+    pub fn close_rebuild(
         &mut self,
         alloc: Global,
         place: u64,
@@ -135,15 +133,14 @@ fn bytes_in(copy: &CopySegment) -> Option<&[u8]>
     }
 }
 
-/// The tablet of this number, which is there to be rebuilt, begins to gather. One binary search.
-pub(crate) fn begin_gather(tablets: &mut [(u32, TabletLane)], number: u32, gather: Gather)
-    requires tablets { AreTablets tablets.old }
-    requires there { IsSome (get tablets.old number) }
-    requires role { is_gathering_lem (tablet_in tablets.old number).handover.role ≡ true }
-    ensures gathers { tablets_of tablets.new ≡ insert (tablets_of tablets.old) number (with_gather (tablet_in tablets.old number) gather) }
-    ensures tablets { AreTablets tablets.new }
+/// The completions after these ends. A search for each of them, and for the first of a client what an insertion takes.
+pub fn completions_of(alloc: Global, ends: &[Ended]) -> Result<Completions, NoMemory>
+    ensures { IfOk result (λ it. it.completions ≡ completions_from [] ends.now) }
 {
-    let at = place_of(tablets, number);
-    let tablet = &mut tablets[at].1;
-    tablet.begin_gather(gather);
+    let mut completions = Completions::new(alloc);
+    completions.reserve(ends.len())?;
+    for end in ends {
+        completions.note(*end);
+    }
+    Ok(completions)
 }

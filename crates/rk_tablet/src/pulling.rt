@@ -8,8 +8,8 @@ ghost use Rattle.rk_bucket_table.specs.Tables.{items_of as records_of};
 ghost use Rattle.rk_transfer.specs.Handover.{joined};
 ghost use Rattle.rk_world.specs.RoleTests.{is_receiving_at as is_receiving_at_lem};
 ghost use Rattle.rk_world.specs.Tablet.{with_handover};
-ghost use Rattle.rk_master.specs.Parts.{tablet_of};
-ghost use Rattle.rk_master.specs.Pulls.{awaits as awaits_lem, with_resolved, with_sealed, with_side, with_token};
+ghost use Rattle.rk_tablet.specs.Tablets.{tablet_of};
+ghost use Rattle.rk_tablet.specs.Pulls.{awaits as awaits_lem, with_resolved, with_sealed, with_side, with_token};
 
 use crate::choice::is_receiving;
 use crate::tablet_lane::TabletLane;
@@ -27,21 +27,21 @@ const MOST_ITEMS: usize = 1 << 32;
 
 impl TabletLane {
     /// Whether the tablet pulls at this term.
-    pub(crate) fn is_receiving_at(&self, term: u64) -> bool
+    pub fn is_receiving_at(&self, term: u64) -> bool
         ensures { result ≡ is_receiving_at_lem (tablet_of self.now) term }
     {
         is_receiving(self.handover.role) && self.handover.term == term
     }
 
     /// Whether the tablet pulls at the term of a batch, and awaits that one.
-    pub(crate) fn awaits(&self, pulled: &Pulled) -> bool
+    pub fn awaits(&self, pulled: &Pulled) -> bool
         ensures { result ≡ awaits_lem (tablet_of self.now) pulled.now }
     {
         self.is_receiving_at(pulled.tenure.term) && self.progress.awaits(&pulled.token)
     }
 
     /// The worker whose turn it is.
-    pub(crate) fn worker(&self) -> u8
+    pub fn worker(&self) -> u8
         ensures worker { result ≡ self.now.batches % 4 }
         ensures within { result < WORKERS }
     {
@@ -51,7 +51,7 @@ impl TabletLane {
     /// Replays items by a worker, one after the other: one that is newer than what the records have of its key goes into
     /// the records and to the worker's items, and any other nowhere. `NoMemory` too for 2^32 items, or where the side logs
     /// have 2^62 bytes. A search of the records for each item, and the time to spell it.
-    pub(crate) fn replay(
+    pub fn replay(
         &mut self,
         records: &mut BucketTable,
         worker: u8,
@@ -73,7 +73,7 @@ impl TabletLane {
     }
 
     /// The token moves on behind one more batch. `NoMemory` where the batches are not counted any further.
-    pub(crate) fn pass(&mut self, next: Token) -> Result<(), NoMemory>
+    pub fn pass(&mut self, next: Token) -> Result<(), NoMemory>
         ensures { OnOk result (tablet_of self.new ≡ with_token (tablet_of self.old) next) }
     {
         self.batches = self.batches.checked_add(1).ok_or(NoMemory)?;
@@ -83,7 +83,7 @@ impl TabletLane {
 
     /// Takes note that the items with these hashes have come, and answers whether the hashes are those that were asked for.
     /// Else nothing has changed. A step for each of them.
-    pub(crate) fn resolve(&mut self, hashes: &[u64]) -> bool
+    pub fn resolve(&mut self, hashes: &[u64]) -> bool
         ensures answer { result ≡ is_batch (tablet_of self.old).pulling.hashes.outstanding hashes.now }
         ensures tablet { tablet_of self.new ≡ with_resolved (tablet_of self.old) hashes.now }
     {
@@ -92,7 +92,7 @@ impl TabletLane {
 
     /// The side logs, of which no items are left, became side segments of these numbers, and the hashes that were wanted
     /// are forgotten.
-    pub(crate) fn note_sealed(&mut self, sealed: Listed<u32>)
+    pub fn note_sealed(&mut self, sealed: Listed<u32>)
         ensures { tablet_of self.new ≡ with_sealed (tablet_of self.old) self.old.sides sealed }
     {
         self.wanted.clear();
@@ -100,7 +100,7 @@ impl TabletLane {
     }
 
     /// A target that pulled has all: its closing entry stands at this place, or is not in the log yet.
-    pub(crate) fn end_pull(&mut self, entry: Option<u64>)
+    pub fn end_pull(&mut self, entry: Option<u64>)
         requires { self.old.handover.role ≡ Role.Receiving }
         ensures handover { self.new.handover ≡ (record self.old.handover { role = Role.Joining entry }) }
         ensures moved { joined self.old.handover self.old.handover.term entry ≡ Some self.new.handover }

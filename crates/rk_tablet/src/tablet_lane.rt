@@ -3,6 +3,7 @@ ghost use Rattle.std.specs.Int.{w64};
 ghost use Rattle.rk_entry.specs.Numbers.{IsNumber};
 ghost use Rattle.rk_types.specs.Hashing.{hash_of};
 ghost use Rattle.rk_types.specs.declared.held.Held.{Held as Item};
+ghost use Rattle.rk_world.specs.Commits.{noting};
 ghost use Rattle.rk_world.specs.Ranges.{has_key};
 ghost use Rattle.rk_world.specs.Master.{Master, serves_key};
 ghost use Rattle.rk_world.specs.Gather.{next_reading as next_reading_lem};
@@ -14,10 +15,9 @@ ghost use Rattle.rk_world.specs.Tablet.{no_tablet, pulling_from, with_handover, 
 ghost use Rattle.rk_world.specs.MasterTurn.{with_outstanding};
 ghost use Rattle.rk_world.specs.Splits.{with_half};
 ghost use Rattle.rk_world.specs.Waiting.{joined_entry};
-ghost use Rattle.rk_master.specs.Parts.{tablet_of};
+ghost use Rattle.rk_tablet.specs.Tablets.{tablet_of};
 
 use crate::choice::is_receiving;
-use crate::splits::half_of;
 use rk_done::Completions;
 use rk_entry::{Entry, Joined};
 use rk_message::{Body, Message, Tenure, Transfer};
@@ -26,7 +26,7 @@ use rk_pull::Progress;
 use rk_rebuild::Gather;
 use rk_side_log::SideLogs;
 use rk_transfer::{Handover, Role};
-use rk_types::{Ended, Key, Listed, NoMemory, Node, Range, bucket_of, hash};
+use rk_types::{Call, Ended, Key, Listed, NoMemory, Node, Range, bucket_of, hash};
 use rk_world::Reading;
 use std::alloc::Global;
 
@@ -34,7 +34,6 @@ use std::alloc::Global;
 pub const MOST_VERSIONS: u64 = 1 << 60;
 
 /// What a master has of a tablet.
-#[derive(Drop)]
 pub struct TabletLane {
     pub handover: Handover,
     pub completions: Completions,
@@ -55,30 +54,48 @@ pub struct TabletLane {
     pub merged_ends: Listed<Ended>,
 }
 
+// No derive, so that to drop a tablet is a call in proofs, and no walk through all that it holds.
+impl Drop for TabletLane {
+    fn drop(self) {
+        let TabletLane {
+            handover: _,
+            completions: _,
+            source: _,
+            wanted: _,
+            progress: _,
+            batches: _,
+            sides: _,
+            sealed: _,
+            gather: _,
+            merged_ends: _,
+        } = self;
+    }
+}
+
 impl TabletLane {
     /// Whether the tablet is served here and has the key.
-    pub(crate) fn serves(&self, table: u64, key: &Key) -> bool
+    pub fn serves(&self, table: u64, key: &Key) -> bool
         ensures { result ≡ serves_key table key.now (tablet_of self.now) }
     {
         self.handover.serves() && self.has_key(table, key)
     }
 
     /// Whether the key is in the tablet's range.
-    pub(crate) fn has_key(&self, table: u64, key: &Key) -> bool
+    pub fn has_key(&self, table: u64, key: &Key) -> bool
         ensures { result ≡ has_key self.now.handover.range table key.now }
     {
         self.handover.range.has(table, hash(key.bytes()))
     }
 
     /// Whether the master does nothing for the tablet.
-    pub(crate) fn is_absent(&self) -> bool
+    pub fn is_absent(&self) -> bool
         ensures { result ≡ is_absent_lem self.now.handover.role }
     {
         matches!(self.handover.role, Role::Absent)
     }
 
     /// Whether what was found of a record with this hash is all that there is.
-    pub(crate) fn is_known(&self, hash: u64, is_there: bool) -> bool
+    pub fn is_known(&self, hash: u64, is_there: bool) -> bool
         ensures { (state : Option Item) → is_there ≡ is_some state → result ≡ is_known_lem (tablet_of self.now) hash state }
     {
         is_there
@@ -88,7 +105,7 @@ impl TabletLane {
     }
 
     /// Wants a hash. After `NoMemory` nothing has changed.
-    pub(crate) fn want(&mut self, hash: u64) -> Result<(), NoMemory>
+    pub fn want(&mut self, hash: u64) -> Result<(), NoMemory>
         ensures ok { OnOk result (tablet_of self.new ≡ with_wanted (tablet_of self.old) hash) }
         ensures err { OnErr result (tablet_of self.new ≡ tablet_of self.old) }
     {
@@ -98,7 +115,7 @@ impl TabletLane {
 
     /// The batch of wanted hashes to ask for: the outstanding one, or where there is none the oldest 16 or fewer of those
     /// that are wanted, which are outstanding then. After `NoMemory` they are so too.
-    pub(crate) fn next_batch(&mut self, alloc: Global) -> Result<Listed<u64>, NoMemory>
+    pub fn next_batch(&mut self, alloc: Global) -> Result<Listed<u64>, NoMemory>
         ensures batch { IfOk result (λ hashes. hashes ≡ (tablet_of self.new).pulling.hashes.outstanding) }
         ensures tablet { tablet_of self.new ≡ with_outstanding (tablet_of self.old) }
         ensures handover { self.new.handover ≡ self.old.handover }
@@ -109,7 +126,7 @@ impl TabletLane {
 
     /// The segment that a rebuild of the tablet reads next; none where nothing is gathered, or all is. A look at each
     /// member whose log is gathered, and a search for a side segment.
-    pub(crate) fn next_reading(&self) -> Option<Reading>
+    pub fn next_reading(&self) -> Option<Reading>
         ensures { result ≡ next_reading_lem (tablet_of self.now).gather }
     {
         match &self.gather {
@@ -120,7 +137,7 @@ impl TabletLane {
 
     /// Gives the next version: the counter rises by one. `NoMemory` where no version is left, and then nothing has
     /// changed.
-    pub(crate) fn next_version(&mut self) -> Result<u64, NoMemory>
+    pub fn next_version(&mut self) -> Result<u64, NoMemory>
         ensures version { IfOk result (λ version. version ≡ (tablet_of self.old).handover.counter) }
         ensures lawful { IfOk result (IsNumber w64 1) }
         ensures counter { OnOk result (tablet_of self.new ≡ counted_up (tablet_of self.old)) }
@@ -133,8 +150,21 @@ impl TabletLane {
         Ok(version)
     }
 
+    /// Notes the end of a call, where the tablet is not absent and has the key. One binary search, and for the first call of
+    /// a client what an insertion takes.
+    pub fn note(&mut self, call: &Call, end: Ended) -> Result<(), NoMemory>
+        ensures { OnOk result (tablet_of self.new ≡ noting call.now end (tablet_of self.old)) }
+    {
+        if self.is_absent() || !self.has_key(call.table, &call.key) {
+            return Ok(());
+        }
+        self.completions.reserve(1)?;
+        self.completions.note(end);
+        Ok(())
+    }
+
     /// A tablet with this handover, of which nothing else is known. Takes no memory.
-    pub(crate) fn new(alloc: Global, handover: Handover) -> TabletLane
+    pub fn new(alloc: Global, handover: Handover) -> TabletLane
         ensures { tablet_of result ≡ with_handover no_tablet handover }
     {
         TabletLane {
@@ -153,7 +183,7 @@ impl TabletLane {
 
     /// A part of the tablet that is served with this range at this term, and has what the tablet has but for what was
     /// gathered and merged. A copy of the completions, and of what was pulled.
-    pub(crate) fn half(&self, range: Range, term: u64) -> Result<TabletLane, NoMemory>
+    pub fn half(&self, range: Range, term: u64) -> Result<TabletLane, NoMemory>
         ensures { IfOk result (λ half. tablet_of half ≡ with_half (tablet_of self.now) range term) }
     {
         Ok(TabletLane {
@@ -171,7 +201,7 @@ impl TabletLane {
     }
 
     /// A tablet that closes freezes.
-    pub(crate) fn freeze(&mut self)
+    pub fn freeze(&mut self)
         requires { self.old.handover.role ≡ Role.Closing }
         ensures role { self.new.handover.role ≡ Role.Frozen }
         ensures moved { frozen self.old.handover self.old.handover.term ≡ Some self.new.handover }
@@ -182,14 +212,14 @@ impl TabletLane {
     }
 
     /// Whether the tablet is frozen at this term.
-    pub(crate) fn is_frozen_at(&self, term: u64) -> bool
+    pub fn is_frozen_at(&self, term: u64) -> bool
         ensures { result ≡ is_frozen_at_lem (tablet_of self.now) term }
     {
         matches!(self.handover.role, Role::Frozen) && self.handover.term == term
     }
 
     /// What the next owner of a frozen tablet has to know, from the master of this number.
-    pub(crate) fn transfer(&self, number: u8, tenure: Tenure) -> Result<Message, NoMemory>
+    pub fn transfer(&self, number: u8, tenure: Tenure) -> Result<Message, NoMemory>
         ensures { IfOk result (λ message. (master : Master) → master.number ≡ number
             → message ≡ transfer_lem master tenure (tablet_of self.now)) }
     {
@@ -206,7 +236,7 @@ impl TabletLane {
     }
 
     /// Forgets what was gathered and merged.
-    pub(crate) fn forget_merged(&mut self)
+    pub fn forget_merged(&mut self)
         ensures { tablet_of self.new ≡ without_merged (tablet_of self.old) }
     {
         self.gather = None;
@@ -214,7 +244,7 @@ impl TabletLane {
     }
 
     /// The tablet has this handover from now on, and what was gathered and merged is forgotten.
-    pub(crate) fn hand(&mut self, handover: Handover)
+    pub fn hand(&mut self, handover: Handover)
         ensures { tablet_of self.new ≡ without_merged (with_handover (tablet_of self.old) handover) }
     {
         self.handover = handover;
@@ -223,7 +253,7 @@ impl TabletLane {
 
     /// Forgets what was pulled, gathered and merged; from now on the tablet is pulled from this source. A step for each
     /// segment that was not sealed.
-    pub(crate) fn pull_from(&mut self, source: u8)
+    pub fn pull_from(&mut self, source: u8)
         ensures { tablet_of self.new ≡ (record (without_merged (tablet_of self.old)) { pulling = pulling_from source }) }
     {
         self.forget_merged();
@@ -237,7 +267,7 @@ impl TabletLane {
 
     /// The tablet is given up: it is absent, what was pulled, gathered and merged is forgotten, and its term and range
     /// stay.
-    pub(crate) fn give_up(&mut self)
+    pub fn give_up(&mut self)
         ensures { tablet_of self.new ≡ given_up (tablet_of self.old) }
     {
         self.pull_from(self.source);
@@ -245,7 +275,7 @@ impl TabletLane {
     }
 
     /// A target that has all takes the place of the entry that closes its role.
-    pub(crate) fn join(&mut self, place: u64)
+    pub fn join(&mut self, place: u64)
         requires { self.old.handover.role ≡ Role.Joining None }
         ensures role { self.new.handover.role ≡ Role.Joining (Some place) }
         ensures moved { joined self.old.handover self.old.handover.term (Some place) ≡ Some self.new.handover }
@@ -256,7 +286,7 @@ impl TabletLane {
     }
 
     /// The entry that closes the role of a target that has all.
-    pub(crate) fn joined_entry(&self) -> Result<Entry, NoMemory>
+    pub fn joined_entry(&self) -> Result<Entry, NoMemory>
         ensures { IfOk result (λ entry. entry ≡ joined_entry (tablet_of self.now)) }
     {
         Ok(Entry::Joined(Joined {
@@ -264,5 +294,17 @@ impl TabletLane {
             term: self.handover.term,
             segments: self.sealed.duplicate()?,
         }))
+    }
+}
+
+/// What a part of a tablet that had this handover has: it is served with this range at this term, and its counter goes on.
+pub fn half_of(before: Handover, range: Range, term: u64) -> Handover
+    ensures { result ≡ record { role = Role.Serving; term = term; range = range; counter = before.counter } }
+{
+    Handover {
+        role: Role::Serving,
+        term,
+        range,
+        counter: before.counter,
     }
 }

@@ -1,0 +1,3 @@
+pub mod Tablets
+pub mod Pulls
+pub mod Rebuilding
