@@ -11,22 +11,22 @@ pub use Rattle.rk_log.specs.Log.{Log, with_entry}
 pub use Rattle.rk_master.specs.Choices.{IsFit}
 pub use Rattle.rk_staged.specs.Kept.{AreStagedFrom}
 pub use Rattle.rk_master.specs.Parts.{AreClosable, AreTablets, IsClosable, behind, can_close, changing, given_up_but, marks_of, tablet_in}
-pub use Rattle.rk_tablet.specs.Tablets.{tablet_of}
 pub use Rattle.rk_master.specs.Parts.{tablets_of, worked_of}
 pub use Rattle.rk_master.specs.Places.{Row}
-pub use Rattle.rk_tablet.specs.Pulls.{with_side}
 pub use Rattle.rk_master.specs.Pulls.{with_sides}
-pub use Rattle.rk_tablet.specs.Rebuilding.{with_gather}
 pub use Rattle.rk_master.specs.Rebuilding.{CanBeSpelled, own_counted, with_items, with_side_read}
 pub use Rattle.rk_master.specs.Sides.{AreSpelled, IsSpelled, items_of_sides}
 pub use Rattle.rk_master.specs.State.{IsState, master_of}
-pub use Rattle.rk_tablet.specs.declared.tablet_lane.TabletLane.{TabletLane}
 pub use Rattle.rk_master.specs.declared.work.Worked.{Worked as Work}
 pub use Rattle.rk_message.specs.declared.message.Message.{Message}
 pub use Rattle.rk_overlay.specs.Newest.{newest}
 pub use Rattle.rk_priority.specs.Hashes.{is_batch}
 pub use Rattle.rk_side_log.specs.Replayed.{Replayed, side_replayed}
 pub use Rattle.rk_side_log.specs.Spelled.{bytes_in, spelled_items}
+pub use Rattle.rk_tablet.specs.Tablets.{tablet_of}
+pub use Rattle.rk_tablet.specs.Pulls.{with_side}
+pub use Rattle.rk_tablet.specs.Rebuilding.{with_gather}
+pub use Rattle.rk_tablet.specs.declared.tablet_lane.TabletLane.{TabletLane}
 pub use Rattle.rk_transfer.specs.Handover.{joined}
 pub use Rattle.rk_transfer.specs.declared.handover.Handover.{Handover}
 pub use Rattle.rk_transfer.specs.declared.role.Role.{Role}
