@@ -3,7 +3,6 @@ use Rattle.rk_master.proofs.Words.{◌≡◌, ℕ, zero, suc, ◌+◌, ◌<◌, 
 use Rattle.rk_master.proofs.Words.{ap, arith, append_assoc, append-nil, get, Call, Entry, told_by, Master, changed, apply_entries, Work}
 use Rattle.rk_master.proofs.Words.{worked_of, behind, marks_of}
 use Rattle.rk_types.specs.declared.call.Ended.{Ended}
-use Rattle.rk_entry.specs.declared.entry.Entry.TheVariants as entries
 use Rattle.rk_log.specs.Log.{committed}
 use Rattle.rk_world.specs.Commits.{with_entry_item, with_applied, with_ended, apply_entry, newly_held}
 use Rattle.rk_master.specs.Parts.{with_items_of}

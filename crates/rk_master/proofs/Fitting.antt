@@ -3,10 +3,8 @@ use Rattle.rk_master.proofs.Words.{arith, ◌≡◌, ℕ, Bool, true, false, con
 use Rattle.rk_master.proofs.Words.{IsSome, find, nat_cmp, is_eq, unsigned_tied, false≢true, eq-eqb, NumberMap, get, Call, Held, Tablet}
 use Rattle.rk_master.proofs.Words.{Master, serves_key, choice_of, fresh_choice, IsFit}
 use Rattle.rk_types.specs.declared.call.Op.{Op}
-use Rattle.rk_types.specs.declared.call.Op.TheVariants as ops
 use Rattle.rk_done.specs.Completions.{look}
 use Rattle.rk_done.specs.declared.completion.Look.{Look}
-use Rattle.rk_done.specs.declared.completion.Look.TheVariants as looks
 use Rattle.rk_model.specs.Merged.{is_mutation}
 use Rattle.rk_message.specs.Calls.{IsLawfulOp}
 use Rattle.rk_world.specs.Premises.{IsLawfulCall}

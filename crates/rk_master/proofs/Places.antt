@@ -1,7 +1,7 @@
 -- The place of a tablet's number, and what is found and changed there.
 use Rattle.rk_master.proofs.Words.{◌≡◌, ℕ, ◌<◌, Bool, true, false, cond, List, [], ◌∷◌, ◌++◌, ◌+◌, length, map, take, drop, slice_get}
 use Rattle.rk_master.proofs.Words.{get_or, set, append_assoc, Option, Some, unwrap_or, refl, sym, ap, ◌∙◌, subst, arith, slice_get-get_or}
-use Rattle.rk_master.proofs.Words.{false≢true, IsSome, option_map, insert_at, nat_cmp, is_eq, Ordering, Less, Equal, Greater, by_order}
+use Rattle.rk_master.proofs.Words.{IsSome, option_map, insert_at, nat_cmp, is_eq, Ordering, Less, Equal, Greater, by_order}
 use Rattle.rk_master.proofs.Words.{NumberMap, IsInOrder, get, insert, IsAt, IsBetween, in_order_insert, Handover, Tablet, no_tablet}
 use Rattle.rk_master.proofs.Words.{with_handover, TabletLane, changing, tablet_of, tablets_of, tablet_in, Row}
 use Rattle.std.proofs.Common.{drop-cons}

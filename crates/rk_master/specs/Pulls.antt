@@ -1,5 +1,5 @@
 -- What the messages of a pull need, what a source answers, and what is so at the place of a target's tablet.
-use Rattle.std.specs.Prelude.{◌≡◌, ℕ, ◌+◌, ◌++◌, List, slice_get, Some}
+use Rattle.std.specs.Prelude.{◌≡◌, ℕ, ◌++◌, List, slice_get, Some}
 use Rattle.std.specs.List.{All, flat_map}
 use Rattle.rk_types.specs.declared.node.Node.{Node}
 use Rattle.rk_types.specs.declared.range.Range.{Range}
@@ -12,9 +12,7 @@ use Rattle.rk_pull.specs.declared.batches.TheConstants.{BATCH_BYTES}
 use Rattle.rk_log.specs.Log.{Log}
 use Rattle.rk_message.specs.declared.message.Body.TheVariants as bodies
 use Rattle.rk_message.specs.declared.message.Message.{Message}
-use Rattle.rk_message.specs.declared.pulling.Got.{Got}
 use Rattle.rk_message.specs.declared.pulling.Pull.{Pull}
-use Rattle.rk_message.specs.declared.pulling.Pulled.{Pulled}
 use Rattle.rk_message.specs.declared.pulling.Want.{Want}
 use Rattle.rk_world.specs.Ends.{items_of}
 use Rattle.rk_world.specs.Master.{Master}

@@ -1,4 +1,4 @@
-use Rattle.rk_master.proofs.Words.{◌≡◌, List, subst, sym, IsSome, IfOk, IfOk-weaker, get, IsFit, tablets_of, worked_of, Row, master_of}
+use Rattle.rk_master.proofs.Words.{◌≡◌, List, subst, sym, IfOk, IfOk-weaker, IsFit, tablets_of, worked_of, Row, master_of}
 use Rattle.rk_world.specs.declared.choice.Choice.{Choice}
 use Rattle.rk_world.specs.declared.choice.Choice.TheVariants.{Reads, Refuses, Wants, Writes}
 use Rattle.rk_world.specs.Requests.{chosen}

@@ -1,6 +1,5 @@
 use Rattle.rk_master.proofs.Words.{◌≡◌, ℕ, true, false, List, sym, ap, subst, ◌∙◌, insert, Master, Tablet, no_tablet, with_handover}
 use Rattle.rk_master.proofs.Words.{without_merged, IsClosable, tablet_in, tablet_of, tablets_of, IsAt, Row, master_of}
-use Rattle.rk_transfer.specs.declared.role.Role.TheVariants as roles
 use Rattle.rk_world.specs.Ranges.{range_below, range_from}
 use Rattle.rk_world.specs.Splits.{with_half}
 use Rattle.rk_master.proofs.Closable.{closable_else}
