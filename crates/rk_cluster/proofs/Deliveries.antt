@@ -11,7 +11,7 @@ use Rattle.rk_types.specs.declared.node.Node.TheVariants as nodes
 use Rattle.rk_message.specs.Wire.{missing}
 use Rattle.rk_message.specs.declared.missing.NoMessage.{NoMessage}
 use Rattle.rk_world.specs.declared.event.Event.TheVariants as events
-use Rattle.rk_cluster.specs.Delivering.{is_lost_at_backup}
+use Rattle.rk_cluster.specs.Delivering.{IsArrivalAt, is_lost_at_backup}
 use Rattle.rk_cluster.specs.Makes.{deliver_by, deliver_in_makes, delivery, delivery_of, has_receiver}
 use Rattle.rk_cluster.specs.Replicas.{happening}
 use Rattle.rk_cluster.specs.declared.error.ClusterError.TheVariants as errors
@@ -22,6 +22,17 @@ use Rattle.rk_cluster.proofs.Shortage.{all_done, as_short, nothing_done}
 
 pub no_receiver : (number : ℕ) (wire : Traffic) (e : NoMessage) → missing number wire ≡ Some e → receiver_of number wire ≡ None
 no_receiver number wire e missing_is = grind (arith, wire.messages)
+
+-- whom a message is for that was found
+pub received : (number : ℕ) (wire : Traffic) (message : Message) (to : Node) → get wire.messages number ≡ Some message → to ≡ message.to
+    → receiver_of number wire ≡ Some to
+received number wire message to found is = ap (option_map (λ (it : Message). it.to)) found ∙ ap Some (sym is)
+
+-- what was found on the wire of a lane arrives there
+pub arrives : {R : Type 0} (lanes : List (LaneState R)) (place number : ℕ) (lane : LaneState R) (wire : Traffic) (message found : Message)
+    → slice_get lanes place ≡ Some lane → IfSome lane.running (λ running. wire ≡ running.wire) → get wire.messages number ≡ Some found → message ≡ found
+    → IsArrivalAt lanes place (record { number = number; message = message })
+arrives {R = R} lanes place number lane wire message found there known is same other at = grind arith
 
 module _ {R : Type 0} (segments : R → Option Segments) (faults : R → ℕ) where
   -- one occurrence alone, whether or not something is worn there

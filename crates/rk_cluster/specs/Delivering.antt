@@ -10,7 +10,9 @@ use Rattle.rk_world.specs.Cluster.{Cluster, lane_at}
 use Rattle.rk_world.specs.Step.{step}
 use Rattle.rk_world.specs.declared.event.Event.{Event}
 use Rattle.rk_world.specs.declared.event.Event.TheVariants as events
+use Rattle.rk_lane.specs.Events.{IsArrivalIn}
 use Rattle.rk_lane.specs.LaneState.{LaneState}
+use Rattle.rk_lane.specs.declared.messages.Arrival.{Arrival}
 use Rattle.rk_cluster.specs.Acted.{lost_in}
 use Rattle.rk_cluster.specs.Effects.{ActsBy, CutShortBy}
 use Rattle.rk_cluster.specs.Faults.{BySomeFate}
@@ -18,6 +20,10 @@ use Rattle.rk_cluster.specs.Makes.{deliver_in_makes}
 use Rattle.rk_cluster.specs.Replicas.{Fate, answer_of}
 use Rattle.rk_cluster.specs.State.{ClusterState, IsOf}
 use Rattle.rk_cluster.specs.declared.delivering.Delivered.{Delivered}
+
+-- a message that arrives is on the wire of the lane at a place, under its number
+abbrev pub IsArrivalAt : {R : Type 0} → List (LaneState R) → ℕ → Arrival → Type 0
+IsArrivalAt {R} lanes place arrival = (lane : LaneState R) → slice_get lanes place ≡ Some lane → IsArrivalIn lane arrival
 
 -- whether the receiver of a message, if there is one, is a backup
 abbrev pub is_backup : Option Node → Bool

@@ -8,13 +8,12 @@ ghost use Rattle.rk_cluster.specs.Steps.{AreLanes, MayAllAct, WhereWorn, state_o
 
 use crate::error::ClusterError;
 use crate::sessions::has_session;
-use crate::steps::act_told;
+use crate::steps::deliver_told;
 use crate::visits::accept_in;
-use rk_lane::Lane;
+use rk_lane::{Arrival, Lane};
 use rk_outside::Replica;
 use rk_session::Session;
 use rk_types::{NoMemory, Node, Said};
-use rk_world::Event;
 use std::alloc::Global;
 use std::collections::BTreeMap;
 
@@ -28,7 +27,8 @@ pub struct Delivered {
 }
 
 /// The message of a number is delivered, where it is on a lane's wire: a client that has a session takes it itself, and says
-/// what it tells of its call; a client without one takes nothing; each other node takes it by an event of the lane.
+/// what it tells of its call; a client without one takes nothing, and each other node takes it by an event of the lane. It is
+/// looked up once, to see whom it is for, and goes by value to who takes it.
 pub(crate) fn deliver_in<R: Replica + Drop>(
     lanes: &mut Vec<Lane<R>>,
     sessions: &mut BTreeMap<u32, Session>,
@@ -52,11 +52,13 @@ pub(crate) fn deliver_in<R: Replica + Drop>(
     ensures failed { IfOk result (λ delivered. delivered.failed ≡ true → SomeLaneFailed R.faults lanes.old.items lanes.new.items) }
     ensures acts { MayAllAct masters sessions.new.entries }
 {
-    let Ok(to) = lanes[lane as usize].wire().address(number) else {
+    let Ok(frame) = lanes[lane as usize].wire().frame(number) else {
         return Ok(quietly());
     };
+    let to = frame.to();
     let Node::Client(client) = to else {
-        let lost = act_told(lanes, lane, Event::Deliver(number))?;
+        let message = frame.message()?;
+        let lost = deliver_told(lanes, lane, Arrival { number, message })?;
         return Ok(Delivered {
             said: None,
             failed: is_lost_at_backup(to, lost),
@@ -65,7 +67,9 @@ pub(crate) fn deliver_in<R: Replica + Drop>(
     if !has_session(sessions, client) {
         return Ok(quietly());
     }
-    let said = accept_in(lanes, sessions, masters, lane, number, client)?;
+    let message = frame.message()?;
+    let arrival = Arrival { number, message };
+    let said = accept_in(lanes, sessions, masters, lane, arrival, client)?;
     Ok(Delivered {
         said,
         failed: false,

@@ -5,14 +5,14 @@ ghost use Rattle.rk_types.specs.declared.hashing.TheConstants.{LANES};
 ghost use Rattle.rk_world.specs.Refusals.{comes_anyway};
 ghost use Rattle.rk_world.specs.declared.event.Event.TheVariants as events;
 ghost use Rattle.rk_cluster.specs.Crashing.{IsSameBeside};
-ghost use Rattle.rk_cluster.specs.Delivering.{IsForBackup};
+ghost use Rattle.rk_cluster.specs.Delivering.{IsArrivalAt, IsForBackup};
 ghost use Rattle.rk_cluster.specs.Faults.{LanesGoOn, SomeLaneFailed};
 ghost use Rattle.rk_cluster.specs.Masters.{backup_counts};
 ghost use Rattle.rk_cluster.specs.Spending.{AreButOne};
 ghost use Rattle.rk_cluster.specs.Steps.{AreLanes, AreStepsCutShort, CarriesSteps, IsDeed, IsHappening, IsLosing, MayComeAt, StepsEndWorn, WhereWorn, failure_of, lost_by};
 
 use crate::error::ClusterError;
-use rk_lane::Lane;
+use rk_lane::{Arrival, Lane};
 use rk_outside::Replica;
 use rk_types::NoMemory;
 use rk_world::{Event, Seen, StepError};
@@ -41,28 +41,29 @@ pub(crate) fn act<R: Replica + Drop>(
     ensures backups { backup_counts lanes.new.items ≡ backup_counts lanes.old.items }
     ensures counts { LanesGoOn R.faults [] lanes.old.items lanes.new.items }
 {
-    act_told(lanes, lane, event)?;
-    Ok(())
+    let answer = lanes[lane as usize].step(event);
+    heard(&answer)
 }
 
-/// An event comes to a lane in the same way; answers whether it showed that a message was lost.
-pub(crate) fn act_told<R: Replica + Drop>(
+/// A message that was looked up in a lane is delivered there, in the same way; answers whether it was lost. No search for it.
+pub(crate) fn deliver_told<R: Replica + Drop>(
     lanes: &mut Vec<Lane<R>>,
     lane: u8,
-    event: Event,
+    arrival: Arrival,
 ) -> Result<bool, ClusterError>
     requires there { lane < length lanes.old.items }
-    requires may { MayComeAt lanes.old.items lane event }
-    ensures ok { IfOk result (IsLosing R.segments R.faults lanes.old.items lanes.new.items lane event None) }
-    ensures err { IfErr result (WhereWorn (λ number. IsHappening R.segments R.faults lanes.old.items lanes.new.items lane event (Some number))) }
+    requires arrives { IsArrivalAt lanes.old.items lane arrival }
+    ensures ok { IfOk result (IsLosing R.segments R.faults lanes.old.items lanes.new.items lane (events.Deliver arrival.number) None) }
+    ensures err { IfErr result (WhereWorn (λ worn. IsHappening R.segments R.faults lanes.old.items lanes.new.items lane (events.Deliver arrival.number) (Some worn))) }
     ensures short { OnErr result (AreButOne lanes.old.items lanes.new.items) }
     ensures lanes { (masters : ℕ) → AreLanes masters 0 lanes.old.items → AreLanes masters 0 lanes.new.items }
     ensures count { length lanes.new.items ≡ length lanes.old.items }
     ensures backups { backup_counts lanes.new.items ≡ backup_counts lanes.old.items }
     ensures counts { LanesGoOn R.faults [] lanes.old.items lanes.new.items }
-    ensures failed { IfOk result (λ lost. IsForBackup lanes.old.items lane event → lost ≡ true → SomeLaneFailed R.faults lanes.old.items lanes.new.items) }
+    ensures failed { IfOk result (λ lost. IsForBackup lanes.old.items lane (events.Deliver arrival.number) → lost ≡ true
+        → SomeLaneFailed R.faults lanes.old.items lanes.new.items) }
 {
-    let answer = lanes[lane as usize].step(event);
+    let answer = lanes[lane as usize].deliver(arrival);
     heard(&answer)?;
     Ok(has_lost(&answer))
 }

@@ -2,6 +2,7 @@
 ghost use Rattle.std.specs.Prelude.{◌≡◌, ◌<◌, [], ℕ, length, Some, None, IfErr, IfOk, OnErr, OnOk};
 ghost use Rattle.std.specs.Option.{option_to_list};
 ghost use Rattle.rk_world.specs.Cluster.{Accepts, Asks};
+ghost use Rattle.rk_cluster.specs.Delivering.{IsArrivalAt};
 ghost use Rattle.rk_cluster.specs.Effects.{ActsOne};
 ghost use Rattle.rk_cluster.specs.Faults.{LanesGoOn};
 ghost use Rattle.rk_cluster.specs.Masters.{backup_counts};
@@ -12,7 +13,7 @@ ghost use Rattle.rk_cluster.specs.Visits.{AcceptsShort, HasSession};
 use crate::error::ClusterError;
 use crate::saying::{asked_by, tell};
 use crate::steps::heard;
-use rk_lane::Lane;
+use rk_lane::{Arrival, Lane};
 use rk_outside::Replica;
 use rk_session::Session;
 use rk_types::Said;
@@ -51,25 +52,26 @@ pub(crate) fn ask_in<R: Replica + Drop>(
     heard(&answer)
 }
 
-/// A client that has a session takes the message of a number of a lane's wire, and says what it tells of its call. A refusal
-/// is passed over, unless memory is wanting; that may also come once the message is taken.
+/// A client that has a session takes a message that was looked up in a lane, and says what it tells of its call. A refusal is passed
+/// over, unless memory is wanting; that may also come once the message is taken. No search for the message.
 pub(crate) fn accept_in<R: Replica + Drop>(
     lanes: &mut Vec<Lane<R>>,
     sessions: &mut BTreeMap<u32, Session>,
     masters: u8,
     lane: u8,
-    number: u64,
+    arrival: Arrival,
     client: u32,
 ) -> Result<Option<Said>, ClusterError>
     requires there { lane < length lanes.old.items }
+    requires arrives { IsArrivalAt lanes.old.items lane arrival }
     requires session { HasSession sessions.old.entries client }
     requires lanes { AreLanes masters 0 lanes.old.items }
     requires acts { MayAllAct masters sessions.old.entries }
     ensures ok { IfOk result (λ said. ActsOne R.segments (state_of lanes.old.items sessions.old.entries)
-        (state_of lanes.new.items sessions.new.entries) (Accepts lane number client) (option_to_list said) None) }
+        (state_of lanes.new.items sessions.new.entries) (Accepts lane arrival.number client) (option_to_list said) None) }
     ensures memory { IfErr result (λ e. e ≡ ClusterError.NoMemory) }
     ensures short { OnErr result (AcceptsShort R.segments (state_of lanes.old.items sessions.old.entries)
-        (state_of lanes.new.items sessions.new.entries) lane number client) }
+        (state_of lanes.new.items sessions.new.entries) lane arrival.number client) }
     ensures lanes { AreLanes masters 0 lanes.new.items }
     ensures count { length lanes.new.items ≡ length lanes.old.items }
     ensures backups { backup_counts lanes.new.items ≡ backup_counts lanes.old.items }
@@ -82,6 +84,6 @@ pub(crate) fn accept_in<R: Replica + Drop>(
     };
     let asked = asked_by(session);
     let at = &mut lanes[lane as usize];
-    let answer = at.accept(number, session);
+    let answer = at.take(arrival, session);
     tell(asked, session, answer)
 }

@@ -2,7 +2,7 @@
 use Rattle.rk_lane.proofs.Words.{arith, ◌≡◌, ℕ, Bool, false, cond, [], length, vec_capacity, Option, None, Some, IfOk, IfSome, Result, Ok}
 use Rattle.rk_lane.proofs.Words.{Err, refl, sym, ap, subst, ◌∙◌, Vec, NumberMap, option_map, option_or, Segments, BackupLane, comes_anyway}
 use Rattle.rk_lane.proofs.Words.{fault_of, refusal, worn, AllTell, Stepped, happened, stepped_by, told_by_replica, World, new_world}
-use Rattle.rk_lane.proofs.Words.{StepError, Event, Seen, IsAnswerOf, IsStepOf, MayComeTo, MayStep, IsHappened, IsUnhappened, lane_of}
+use Rattle.rk_lane.proofs.Words.{StepError, Event, Seen, IsAnswerOf, IsArrivalIn, IsStepOf, MayComeTo, MayStep, IsHappened, IsUnhappened, get, lane_of}
 use Rattle.rk_lane.proofs.Words.{IsSameLane, world_with, IsSameParts, running_of, world_of, Inside, Parts}
 use Rattle.std.proofs.Common.{◌≢◌, IfErr}
 use Rattle.rk_types.specs.declared.node.Node.TheVariants as nodes
@@ -10,6 +10,7 @@ use Rattle.rk_world.specs.Premises.{MayHappen}
 use Rattle.rk_world.specs.Runs.{IsCalmEvent}
 use Rattle.rk_world.specs.declared.error.StepError.TheVariants as errors
 use Rattle.rk_world.specs.declared.event.Event.TheVariants as events
+use Rattle.rk_lane.specs.declared.messages.Arrival.{Arrival}
 use Rattle.rk_lane.specs.Happened.{IsToldAfter}
 use Rattle.rk_lane.specs.Lane.{IsLane}
 use Rattle.rk_lane.specs.Spent.{is_out_of_memory}
@@ -52,6 +53,12 @@ may_come lane event live is_lane may = record {
       calm_same (world_of lane.parts []) (length lane.backups.items) [] event
       (may.calm (running_of lane.parts) (ap (λ (b : Bool). cond b None (Some (running_of lane.parts))) live));
 }
+
+-- what arrives in a lane that is not spent is on the wire of its parts
+pub arrived_there : {R : Type 0} (lane : Inside R) (arrival : Arrival) → lane.spent ≡ false → IsArrivalIn (lane_of lane) arrival
+    → get lane.parts.wire.messages arrival.number ≡ Some arrival.message
+arrived_there lane arrival live is =
+    subst (λ (spent : Bool). IfSome (cond spent None (Some (running_of lane.parts))) (λ running. get running.wire.messages arrival.number ≡ Some arrival.message)) live is
 
 -- ---- a lane that is not spent
 

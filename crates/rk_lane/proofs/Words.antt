@@ -9,7 +9,7 @@ pub use Rattle.rk_inv_wellformed.proofs.maps.Numbered.{numbered_order}
 pub use Rattle.rk_inv_wellformed.proofs.room.Rises.{KeepsTo, all_inserted, keeps_to_more, keeps_to_top}
 pub use Rattle.rk_lane.specs.Backing.{CanBeAnswered, IsBackedAt, IsBackedBy, IsLogOf, IsSpared, IsUnanswered, IsUnansweredAt, sending}
 pub use Rattle.rk_lane.specs.Coordinating.{IsCoordinated, terms_of}
-pub use Rattle.rk_lane.specs.Events.{IsAnswerOf, IsFailed, IsStepOf, MayComeTo, MayStep}
+pub use Rattle.rk_lane.specs.Events.{IsAnswerOf, IsArrivalIn, IsFailed, IsStepOf, MayComeTo, MayStep}
 pub use Rattle.rk_lane.specs.Finished.{IsCutBack, IsFinished}
 pub use Rattle.rk_lane.specs.Happened.{IsHappened, IsUnhappened}
 pub use Rattle.rk_lane.specs.Lane.{AreNumbered, lane_of}

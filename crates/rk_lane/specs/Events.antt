@@ -1,6 +1,6 @@
 -- What an event makes of a lane in code.
-use Rattle.std.specs.Prelude.{◌≡◌, ◌≢◌, ◌⊎◌, ℕ, ◌+◌, List, [], length, map, Option, Some, None, Ok, IsSomeAnd, slice_get, slice_set, ⊤}
-use Rattle.rk_types.specs.NumberMap.{NumberMap}
+use Rattle.std.specs.Prelude.{◌≡◌, ◌≢◌, ◌⊎◌, ℕ, ◌+◌, List, [], length, map, Option, Some, None, Ok, IfSome, IsSomeAnd, slice_get, slice_set, ⊤}
+use Rattle.rk_types.specs.NumberMap.{NumberMap, get}
 use Rattle.rk_types.specs.declared.node.Node.{Node}
 use Rattle.rk_types.specs.declared.node.Node.TheVariants as nodes
 use Rattle.rk_outside.specs.Faults.{Rose}
@@ -22,6 +22,7 @@ use Rattle.rk_world.specs.declared.event.Event.{Event}
 use Rattle.rk_world.specs.declared.event.Event.TheVariants as events
 use Rattle.rk_world.specs.declared.event.Seen.{Seen}
 use Rattle.rk_lane.specs.LaneState.{AreTold, LaneState, Running, world_with}
+use Rattle.rk_lane.specs.declared.messages.Arrival.{Arrival}
 
 -- an event may come to a lane where it is not spent: it names what is there, and a crash leaves another master alive
 pub record MayStep (w : World) (event : Event) : Type 0 where
@@ -33,6 +34,10 @@ pub record MayStep (w : World) (event : Event) : Type 0 where
 pub record MayComeTo {R : Type 0} (lane : LaneState R) (event : Event) : Type 0 where
   pub may : MayHappen (new_world lane.number lane.masters (length lane.backups)) event
   pub calm : (running : Running) → lane.running ≡ Some running → IsCalmEvent (world_with lane running []) event
+
+-- a message that arrives is on the wire of a lane that is not spent, under its number
+abbrev pub IsArrivalIn : {R : Type 0} → LaneState R → Arrival → Type 0
+IsArrivalIn lane arrival = IfSome lane.running (λ running. get running.wire.messages arrival.number ≡ Some arrival.message)
 
 -- whether the call of a replica failed
 abbrev pub IsFailed : Called → Type 0

@@ -1,5 +1,6 @@
 // An event of a lane, by its kind.
-ghost use Rattle.std.specs.Prelude.{◌≡◌, ◌≢◌, [], true, length, None, Err, IfOk, IfErr};
+ghost use Rattle.std.specs.Prelude.{◌≡◌, ◌≢◌, [], true, length, None, Some, Err, IfOk, IfErr};
+ghost use Rattle.rk_types.specs.NumberMap.{get};
 ghost use Rattle.rk_world.specs.Backup.{Gave};
 ghost use Rattle.rk_world.specs.Refusals.{comes_anyway};
 ghost use Rattle.rk_world.specs.declared.event.Event.TheVariants as events;
@@ -61,6 +62,27 @@ pub(crate) fn lose<R: Replica + Drop>(
     forget(parts, number)
 }
 
+/// A message that was looked up is delivered, unless the lane is worn: what [`happen`] makes of Deliver. No search for it, and what its
+/// receiver takes.
+pub(crate) fn deliver<R: Replica + Drop>(
+    parts: &mut Parts,
+    backups: &mut Vec<BackupLane<R>>,
+    alloc: Global,
+    arrival: Arrival,
+) -> Result<Seen, StepError>
+    requires kept { IsKept parts.old }
+    requires there { get parts.old.wire.messages arrival.number ≡ Some arrival.message }
+    requires count { length backups.old.items ≡ parts.old.backups }
+    requires numbered { AreNumbered backups.old.items }
+    ensures ok { IfOk result (IsHappened R.segments R.faults (events.Deliver arrival.number) parts.old backups.old.items parts.new backups.new.items) }
+    ensures err { IfErr result (IsUnhappened R.faults (events.Deliver arrival.number) parts.old backups.old.items parts.new backups.new.items) }
+{
+    if let Some(number) = parts.worn() {
+        return Err(StepError::Worn(number));
+    }
+    arrive(parts, backups, alloc, arrival)
+}
+
 // Takes an event in the same way, whichever it is.
 fn happen_else<R: Replica + Drop>(
     parts: &mut Parts,
@@ -80,7 +102,7 @@ fn happen_else<R: Replica + Drop>(
         return Err(StepError::Worn(number));
     }
     match event {
-        Event::Deliver(number) => deliver(parts, backups, alloc, number),
+        Event::Deliver(number) => find_and_deliver(parts, backups, alloc, number),
         _ => happen_within(parts, alloc, event),
     }
 }
@@ -122,8 +144,8 @@ fn happen_within(parts: &mut Parts, alloc: Global, event: Event) -> Result<Seen,
     }
 }
 
-// The message of a number reaches its receiver; one for a client is not delivered. One search.
-fn deliver<R: Replica + Drop>(
+// The message of a number is looked up, and reaches its receiver. One search.
+fn find_and_deliver<R: Replica + Drop>(
     parts: &mut Parts,
     backups: &mut Vec<BackupLane<R>>,
     alloc: Global,
@@ -136,7 +158,23 @@ fn deliver<R: Replica + Drop>(
     ensures err { IfErr result (IsUnhappened R.faults (events.Deliver number) parts.old backups.old.items parts.new backups.new.items) }
 {
     let message = message_of(&parts.wire, number)?;
-    let arrival = Arrival { number, message };
+    arrive(parts, backups, alloc, Arrival { number, message })
+}
+
+// A message reaches its receiver; one for a client is not delivered.
+fn arrive<R: Replica + Drop>(
+    parts: &mut Parts,
+    backups: &mut Vec<BackupLane<R>>,
+    alloc: Global,
+    arrival: Arrival,
+) -> Result<Seen, StepError>
+    requires ready { IsReady parts.old (events.Deliver arrival.number) }
+    requires there { get parts.old.wire.messages arrival.number ≡ Some arrival.message }
+    requires count { length backups.old.items ≡ parts.old.backups }
+    requires numbered { AreNumbered backups.old.items }
+    ensures ok { IfOk result (IsHappened R.segments R.faults (events.Deliver arrival.number) parts.old backups.old.items parts.new backups.new.items) }
+    ensures err { IfErr result (IsUnhappened R.faults (events.Deliver arrival.number) parts.old backups.old.items parts.new backups.new.items) }
+{
     if let Node::Backup(backup) = arrival.message.to {
         return deliver_to_backup(parts, backups, alloc, &arrival, backup);
     }

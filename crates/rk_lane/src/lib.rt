@@ -3,10 +3,12 @@
 //!
 //! It stands on the crates of the nodes and on the laws of well formed lanes. What it promises: contracts see a [`Lane`] as
 //! a world of the definitions, and each event, turn and answer makes of it just what the definitions do; a refusal changes
-//! nothing, and after want of memory in an event the lane is spent, with its journal as it was.
+//! nothing, and after want of memory in an event the lane is spent, with its journal as it was. A message that was looked up
+//! already comes to a lane by value, as an [`Arrival`], and is not looked up again.
 #![tactic(auto)]
 
 pub use lane::Lane;
+pub use messages::Arrival;
 
 mod backing;
 mod changes;

@@ -6,10 +6,13 @@ ghost use Rattle.rk_lane.specs.Made.{IsUnread};
 use rk_message::{Message, Wire};
 use rk_world::StepError;
 
-/// A message that is delivered, with its number on the wire.
+/// A message that arrives at its receiver in a lane: what was looked up on the wire of the lane, and under which number. What
+/// takes an arrival requires that it is there, and does not search for it again.
 #[derive(Drop)]
-pub(crate) struct Arrival {
+pub struct Arrival {
+    /// The number of the message on the wire.
     pub number: u64,
+    /// The message, read from its frame.
     pub message: Message,
 }
 

@@ -13,11 +13,12 @@ ghost use Rattle.rk_lane.specs.Sends.{IsFitToSend};
 ghost use Rattle.rk_lane.specs.Visits.{IsVisited, MayHaveTurned};
 ghost use Rattle.rk_lane.specs.Visiting.{MayTurn, accepted_by, last_to_note, noted, place_told, request_told, saved};
 
+use crate::messages::{Arrival, message_of};
 use crate::parts::{Parts, WORN_NUMBER};
 use crate::seen::quiet;
 use crate::short::is_short;
 use rk_ledger::LedgerLane;
-use rk_message::{Body, Frame, Message, Wire};
+use rk_message::{Body, Message, Wire};
 use rk_session::Session;
 use rk_types::{Call, NoMemory, Node, Op, hash, lane_of};
 use rk_world::{LastCall, Seen, StepError, Taken};
@@ -43,9 +44,8 @@ pub(crate) fn ask(parts: &mut Parts, session: &mut Session) -> Result<Seen, Step
     take_turn(parts, session)
 }
 
-/// A client takes the message of a number. One whose call was not asked here ignores it; where the message answers its
-/// call, the record is accepted. After an error lane and session are as they were. A few searches, and the time to copy the
-/// message.
+/// A client takes the message of a number, which is looked up: what [`take`] makes of it. After an error lane and session are as they
+/// were. One search, and the time to read the message.
 pub(crate) fn accept(
     parts: &mut Parts,
     number: u64,
@@ -59,14 +59,33 @@ pub(crate) fn accept(
     ensures parts { OnErr result (parts.new ≡ parts.old) }
     ensures session { OnErr result (session.new ≡ session.old) }
 {
-    let frame = frame_for(parts, number, session.client())?;
+    let message = message_of(&parts.wire, number)?;
+    take(parts, Arrival { number, message }, session)
+}
+
+/// A client takes a message that was looked up. One whose call was not asked here ignores it; where the message answers its call, the
+/// record is accepted. After an error, which is never want of memory, lane and session are as they were. A few searches.
+pub(crate) fn take(
+    parts: &mut Parts,
+    arrival: Arrival,
+    session: &mut Session,
+) -> Result<Seen, StepError>
+    requires kept { IsKept parts.old }
+    requires may { MayAct parts.old.coordinator.masters session.old }
+    requires there { get parts.old.wire.messages arrival.number ≡ Some arrival.message }
+    ensures ok { IfOk result (IsVisited (λ w. calls.accept w arrival.number session.old) parts.old parts.new session.new) }
+    ensures refused { IfErr result (λ e.
+        refusals.accept_refusal (world_of parts.old []) arrival.number session.old.client (get parts.old.wire.messages arrival.number) ≡ Some e) }
+    ensures parts { OnErr result (parts.new ≡ parts.old) }
+    ensures session { OnErr result (session.new ≡ session.old) }
+{
+    if let Some(cause) = take_refusal(parts, &arrival, session.client()) {
+        return Err(cause);
+    }
     if !is_asked_here(parts, session) {
         return Ok(took(Taken::Ignored));
     }
-    let Ok(message) = frame.message() else {
-        return Err(StepError::NoMemory);
-    };
-    Ok(took(take(&mut parts.ledger, session, message)))
+    Ok(took(take_message(&mut parts.ledger, session, arrival.message)))
 }
 
 /// Whether the outstanding call of a session, if there is one, was asked in a lane. A few searches.
@@ -131,23 +150,17 @@ fn too_great(number: u64) -> Option<u64>
     None
 }
 
-// The frame of the message of a number, for a client to take; or why it cannot take it: it is not on the wire, or is for another node, or
-// the client was not added.
-fn frame_for<'a>(parts: &'a Parts, number: u64, client: u32) -> Result<&'a Frame, StepError>
-    ensures there { IfOk result (λ frame. get parts.now.wire.messages number ≡ Some frame.now) }
-    ensures allowed { OnOk result (refusals.accept_refusal (world_of parts.now []) number client (get parts.now.wire.messages number) ≡ None) }
-    ensures err { IfErr result (λ e. refusals.accept_refusal (world_of parts.now []) number client (get parts.now.wire.messages number) ≡ Some e) }
+// Why a client cannot take a message that was looked up: it is for another node, or the client was not added.
+fn take_refusal(parts: &Parts, arrival: &Arrival, client: u32) -> Option<StepError>
+    ensures { result ≡ refusals.accept_refusal (world_of parts.now []) arrival.now.number client (Some arrival.now.message) }
 {
-    let Ok(frame) = parts.wire.frame(number) else {
-        return Err(StepError::NoMessage(number));
-    };
-    if !is_for(client, frame.to()) {
-        return Err(StepError::Address(number));
+    if !is_for(client, arrival.message.to) {
+        return Some(StepError::Address(arrival.number));
     }
     if !parts.ledger.is_added(client) {
-        return Err(StepError::Stranger(client));
+        return Some(StepError::Stranger(client));
     }
-    Ok(frame)
+    None
 }
 
 // Whether a node is this client.
@@ -335,7 +348,7 @@ fn one_sent(number: u64) -> Seen
 }
 
 // A client takes a message; where that answers its call, the record is accepted. Takes no memory.
-fn take(ledger: &mut LedgerLane, session: &mut Session, message: Message) -> Taken
+fn take_message(ledger: &mut LedgerLane, session: &mut Session, message: Message) -> Taken
     ensures taken { result ≡ (session_accept session.old message.body).taken }
     ensures session { session.new ≡ (session_accept session.old message.body).session }
     ensures ledger { ledger.new ≡ calls.ledger_taken ledger.old message.body (session_accept session.old message.body).taken }

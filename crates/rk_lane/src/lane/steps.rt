@@ -2,12 +2,13 @@
 ghost use Rattle.std.specs.Prelude.{◌≡◌, ◌≢◌, false, true, None, Err, IfOk, IfErr, IfSome};
 ghost use Rattle.rk_world.specs.Refusals.{comes_anyway};
 ghost use Rattle.rk_world.specs.declared.event.Event.TheVariants as events;
-ghost use Rattle.rk_lane.specs.Events.{IsRefused, IsStepOf, MayComeTo};
+ghost use Rattle.rk_lane.specs.Events.{IsArrivalIn, IsRefused, IsStepOf, MayComeTo};
 ghost use Rattle.rk_lane.specs.LaneState.{IsSameLane};
 ghost use Rattle.rk_lane.specs.Spent.{is_out_of_memory};
 
-use crate::events::{happen, lose};
+use crate::events::{deliver, happen, lose};
 use crate::lane::Lane;
+use crate::messages::Arrival;
 use crate::seen::quiet;
 use rk_outside::Replica;
 use rk_world::{Event, Seen, StepError};
@@ -33,6 +34,26 @@ impl<R: Replica + Drop> Lane<R> {
         }
         let alloc = self.alloc();
         let answer = happen(&mut self.parts, &mut self.backups, alloc, event);
+        self.spent = out_of_memory(&answer);
+        answer
+    }
+
+    /// A message that was looked up on the wire of the lane reaches its receiver: what [`Lane::step`] makes of Deliver, also of
+    /// what it refuses. `NoMessage` never comes, and `Address` comes where the message is for a client. A spent lane answers
+    /// `NoMemory`. No search for the message, and what its receiver takes.
+    pub fn deliver(&mut self, arrival: Arrival) -> Result<Seen, StepError>
+        requires { IsArrivalIn self.old arrival }
+        ensures ok { IfSome self.old.running (λ _. IfOk result (IsStepOf R.segments R.faults (events.Deliver arrival.number) self.old self.new)) }
+        ensures refused { IfErr result (IsRefused R.faults (events.Deliver arrival.number) self.old self.new) }
+        ensures spent { self.old.running ≡ None → self.new ≡ self.old }
+        ensures never { self.old.running ≡ None → result ≡ Err StepError.NoMemory }
+        ensures lane { IsSameLane self.old self.new }
+    {
+        if self.spent {
+            return Err(StepError::NoMemory);
+        }
+        let alloc = self.alloc();
+        let answer = deliver(&mut self.parts, &mut self.backups, alloc, arrival);
         self.spent = out_of_memory(&answer);
         answer
     }

@@ -3,11 +3,13 @@ ghost use Rattle.std.specs.Prelude.{◌≡◌, ◌≢◌, [], None, Err, IfOk, I
 ghost use Rattle.rk_types.specs.NumberMap.{get};
 ghost use Rattle.rk_world.specs.Calls as calls;
 ghost use Rattle.rk_world.specs.Refusals.{accept_refusal, ask_refusal};
+ghost use Rattle.rk_lane.specs.Events.{IsArrivalIn};
 ghost use Rattle.rk_lane.specs.LaneState.{IsSameLane, world_with};
 ghost use Rattle.rk_lane.specs.Visits.{IsRefusedFor, IsVisitOf, MayActIn, MayHaveTurned};
 
 use crate::lane::Lane;
-use crate::visiting::{accept, ask, fits, is_asked_here};
+use crate::messages::Arrival;
+use crate::visiting::{accept, ask, fits, is_asked_here, take};
 use rk_outside::Replica;
 use rk_session::Session;
 use rk_world::{Seen, StepError};
@@ -34,9 +36,9 @@ impl<R: Replica + Drop> Lane<R> {
         ask(&mut self.parts, session)
     }
 
-    /// A client takes the message of a number. One whose call was not asked here ignores it; where the message answers its
-    /// call, the record is accepted. After an error, `NoMemory` too, lane and session are as they were. A spent lane answers
-    /// `NoMemory`. A few searches, and the time to copy the message.
+    /// A client takes the message of a number: what [`Lane::take`] makes of it. `NoMessage` comes where it was never sent or is
+    /// forgotten. After an error, `NoMemory` too, lane and session are as they were. A spent lane answers `NoMemory`. A search for
+    /// the message, the time to read it, and a few searches more.
     pub fn accept(&mut self, number: u64, session: &mut Session) -> Result<Seen, StepError>
         requires { MayActIn self.old session.old }
         ensures ok { IfOk result (λ seen. IsVisitOf (λ w. calls.accept w number session.old) self.old self.new session.new seen) }
@@ -52,6 +54,28 @@ impl<R: Replica + Drop> Lane<R> {
             return Err(StepError::NoMemory);
         }
         accept(&mut self.parts, number, session)
+    }
+
+    /// A client takes a message that was looked up on the wire of the lane. One whose call was not asked here ignores it; where
+    /// the message answers its call, the record is accepted. `Address` comes where the message is for another node, and
+    /// `Stranger` where the client was not added; a spent lane answers `NoMemory`. After an error lane and session are as they
+    /// were. A few searches, and none for the message.
+    pub fn take(&mut self, arrival: Arrival, session: &mut Session) -> Result<Seen, StepError>
+        requires arrives { IsArrivalIn self.old arrival }
+        requires acts { MayActIn self.old session.old }
+        ensures ok { IfOk result (λ seen. IsVisitOf (λ w. calls.accept w arrival.number session.old) self.old self.new session.new seen) }
+        ensures refused { IfErr result (λ e. e ≢ StepError.NoMemory
+            → IsRefusedFor (λ w. accept_refusal w arrival.number session.old.client (get w.wire.messages arrival.number)) self.old e) }
+        ensures kept { OnErr result (self.new ≡ self.old) }
+        ensures session { OnErr result (session.new ≡ session.old) }
+        ensures acts { MayActIn self.new session.new }
+        ensures lane { IsSameLane self.old self.new }
+        ensures spent { self.old.running ≡ None → result ≡ Err StepError.NoMemory }
+    {
+        if self.spent {
+            return Err(StepError::NoMemory);
+        }
+        take(&mut self.parts, arrival, session)
     }
 
     /// Whether the outstanding call of a session was asked in a lane that is not spent. A few searches.
