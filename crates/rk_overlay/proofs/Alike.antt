@@ -1,7 +1,6 @@
 -- Lists in which the same stands: plain ones have the same newest items, in whatever order and however often each stands.
-use Rattle.std.proofs.Common.{◌≡◌, ℕ, List, [], ◌∷◌, ◌++◌, Option, Some, None, refl, sym, ap, ◌∙◌, subst, ⊎_elim}
+use Rattle.std.proofs.Common.{◌≡◌, ℕ, List, ◌∷◌, ◌++◌, Option, Some, None, refl, sym, ap, ◌∙◌, subst, ⊎_elim}
 use Rattle.std.specs.List.{Contains}
-use Rattle.std.proofs.lemmas.List.{append-nil}
 use Rattle.std.proofs.lemmas.List.Elements.{Contains-append_cases, Contains-append_left, Contains-append_right}
 use Rattle.rk_types.specs.declared.held.Held.{Held}
 use Rattle.rk_overlay.specs.Newest.{newest, newest_from, none_found}
@@ -60,20 +59,12 @@ same_repeated a b item stood other = (without, with_it)
         (λ (second : Contains b other). Contains-append_right a (item ∷ b) other (behind_stands item b other second))
         (Contains-append_cases a b other at)
 
--- the newest items of a plain list do not change by the order of its parts, or by an item that stands in it already
-pub overlay_alike : (a b c d : List Held) → IsPlain (a ++ b) → HaveSame (a ++ b) (c ++ d) → overlay a b ≡ overlay c d
-overlay_alike a b c d = newest_items_alike (a ++ b) (c ++ d)
-
+-- the newest items of a plain list do not change by the order of its parts
 pub overlay_swapped : (a b : List Held) → IsPlain (a ++ b) → overlay a b ≡ overlay b a
 overlay_swapped a b plain = newest_items_alike (a ++ b) (b ++ a) plain (same_swapped a b)
 
-pub overlay_repeated : (a b : List Held) (item : Held) → IsPlain (a ++ b) → Contains (a ++ b) item → overlay a (item ∷ b) ≡ overlay a b
-overlay_repeated a b item plain stood =
-    let same = same_repeated a b item stood in
-    sym (newest_items_alike (a ++ b) (a ++ item ∷ b) plain (λ other. ((same other).1, (same other).0)))
-
 -- a list that comes again changes nothing, be it plain or not, since the first of equally new items counts
-newest_twice : (items : List Held) (table : ℕ) (key : List ℕ) → newest (items ++ items) table key ≡ newest items table key
+pub newest_twice : (items : List Held) (table : ℕ) (key : List ℕ) → newest (items ++ items) table key ≡ newest items table key
 newest_twice items table key = go (newest items table key) refl
   where
     joined : newest (items ++ items) table key ≡ newest_from (newest items) items table key
@@ -83,6 +74,3 @@ newest_twice items table key = go (newest items table key) refl
     go None none = joined ∙ newest_from-none (newest items) items table key ((newest_none items table key).0 none)
     go (Some item) is =
         joined ∙ newest_from-stays (newest items) items table key item is (newest_is items table key item is).greatest ∙ sym is
-
-pub overlay_twice : (a : List Held) → overlay a a ≡ overlay a []
-overlay_twice a = newest_items_same (a ++ a) a (newest_twice a) ∙ ap newest_items (sym (append-nil a))

@@ -1,3 +1,4 @@
+pub mod Headlines
 pub mod Members
 pub mod Names
 pub mod Folds

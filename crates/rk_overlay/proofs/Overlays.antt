@@ -1,5 +1,5 @@
 -- The newest items of a list in order: which they are, that no other list has just them, and overlays on overlays.
-use Rattle.std.proofs.Common.{◌≡◌, ℕ, eqb, List, [], ◌∷◌, ◌++◌, Option, Some, None, refl, sym, ap, ◌∙◌, subst, ⊎_elim, arith, append_assoc}
+use Rattle.std.proofs.Common.{◌≡◌, ℕ, eqb, List, [], ◌∷◌, Option, Some, None, refl, sym, ap, ◌∙◌, subst, ⊎_elim, arith}
 use Rattle.std.specs.Cmp.{tied_then}
 use Rattle.std.specs.Cmp.Lexicographic.{slice_cmp}
 use Rattle.std.specs.List.{Contains, filter_map, cons_option}
@@ -8,16 +8,14 @@ use Rattle.std.specs.Ordering.{nat_cmp, is_eq, ordering_then}
 use Rattle.std.specs.declared.cmp.Ordering.TheVariants.{Equal}
 use Rattle.std.proofs.lemmas.Bool.{and_parts, eqb-true}
 use Rattle.std.proofs.lemmas.Bool.Decides.{nat_tests}
-use Rattle.std.proofs.lemmas.List.{append-nil}
 use Rattle.std.proofs.lemmas.Map.Text.{is_eq-slice_cmp}
 use Rattle.std.proofs.lemmas.Slice.Eq.{bytes_eq-Decides}
 use Rattle.rk_types.specs.declared.held.Held.{Held}
 use Rattle.rk_overlay.specs.Newest.{newest}
 use Rattle.rk_overlay.specs.Plain.{IsPlain}
-use Rattle.rk_overlay.specs.Overlay.{item_cmp, newest_items, overlay, IsOverlayOf}
+use Rattle.rk_overlay.specs.Overlay.{item_cmp, newest_items, IsOverlayOf}
 use Rattle.rk_overlay.proofs.Members.{none_stands, first_stands, behind_stands, stands_cases}
 use Rattle.rk_overlay.proofs.Names.{is_of_parts}
-use Rattle.rk_overlay.proofs.Folds.{newest_from-append, newest_from-same}
 use Rattle.rk_overlay.proofs.Bridges.{newest_is, newest_none, newest_found}
 use Rattle.rk_overlay.proofs.Ordered.{item_total, order_folded, folded_cases, folded_stands, one_order}
 
@@ -156,11 +154,3 @@ newest_of_newest items table key = go (newest items table key) refl
           of_record = best.of_record;
           greatest = λ other at of. best.greatest other (stood other at) of;
         }) ∙ sym is
-
--- an overlay with a list laid on it
-pub overlay_onto : (a b c : List Held) → overlay (overlay a b) c ≡ overlay a (b ++ c)
-overlay_onto a b c = grind (arith, append_assoc, newest_items_same, newest_from-append, newest_from-same, newest_of_newest)
-
--- and with nothing
-pub overlay_again : (a b : List Held) → overlay (overlay a b) [] ≡ overlay a b
-overlay_again a b = overlay_onto a b [] ∙ ap (overlay a) (append-nil b)
