@@ -9,9 +9,8 @@ use Rattle.rk_entry.specs.Spelling.{spelled}
 use Rattle.rk_entry.specs.Entries.{spelled_all, entries_of, entries_within}
 use Rattle.rk_entry.specs.Lawful.{IsLawfulEntry}
 use Rattle.rk_entry.proofs.StandLaws.{all_again}
-use Rattle.rk_log.specs.declared.copied.TheConstants.{FIRST_SEGMENT}
 use Rattle.rk_log.specs.Cut.{last_of, has_room, in_last, with_bytes, cut_after, cut}
-use Rattle.rk_log.specs.Stored.{spelled_in, written_then, written_from, stored_entries}
+use Rattle.rk_log.specs.Stored.{spelled_in, written_then, written_from}
 use Rattle.rk_log.proofs.Cuts.{room_some}
 
 -- ---- lists made of each segment
@@ -140,7 +139,7 @@ cut_again entries lawful = again_after [] entries lawful (λ k h. absurd (omega 
 
 -- ---- where segments are stored
 
-written_all : (segments : ℕ → Option (List ℕ)) (first most : ℕ) (list : List (List ℕ)) → ((k n : ℕ) → first + k ≡ n → segments n ≡ slice_get list k) → length list ≤ most → written_from segments first most ≡ list
+pub written_all : (segments : ℕ → Option (List ℕ)) (first most : ℕ) (list : List (List ℕ)) → ((k n : ℕ) → first + k ≡ n → segments n ≡ slice_get list k) → length list ≤ most → written_from segments first most ≡ list
 unfolding written_from
 written_all segments first zero [] is le = refl
 written_all segments first zero (x ∷ list) is le = absurd (omega arith)
@@ -148,8 +147,3 @@ written_all segments first (suc most) [] is le = ap (λ (o : Option (List ℕ)).
 written_all segments first (suc most) (x ∷ list) is le =
     ap (λ (o : Option (List ℕ)). written_then o (written_from segments (suc first) most)) (is zero first (omega arith))
     ∙ ap (λ (l : List (List ℕ)). x ∷ l) (written_all segments (suc first) most list (λ k n e. is (suc k) n (omega arith)) (omega arith))
-
-pub cut_stored : (entries : List Entry) (most : ℕ) (segments : ℕ → Option (List ℕ)) → AllByRecursion IsLawfulEntry entries → length (cut entries) ≤ most
-    → ((k : ℕ) → segments (1 + k) ≡ slice_get (cut entries) k) → stored_entries most segments ≡ entries
-cut_stored entries most segments lawful le is =
-    ap spelled_in (written_all segments FIRST_SEGMENT most (cut entries) (λ k n e. ap segments (sym e) ∙ is k) le) ∙ cut_again entries lawful

@@ -1,3 +1,4 @@
+pub mod Headlines
 pub mod Prefixes
 pub mod Cuts
 pub mod KnownLaws

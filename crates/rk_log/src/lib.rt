@@ -5,12 +5,12 @@
 //! its side segments and the known lengths; main segments hold the spellings of the entries, and an entry that does not
 //! fit into the last one begins the next; an entry is committed exactly when every backup is known to hold it and all
 //! before it, and stays so; a refusal and want of memory change nothing.
+//!
+//! The laws stand in `proofs/Headlines.antt`: what is committed is held by all, and stays so; known lengths never fall;
+//! and entries fill segments, from which they are read back.
 #![tactic(auto)]
 
 pub use copied::MOST_BACKUPS;
-pub use laws::{
-    committed_is_held_by_all, committed_stays, entries_fill_segments, known_lengths_never_fall,
-};
 pub use log::MasterLog;
 pub use overreach::Overreach;
 pub use piece::Piece;
@@ -18,7 +18,6 @@ pub use piece::Piece;
 mod copied;
 mod cursor;
 mod ends;
-mod laws;
 mod log;
 mod overreach;
 mod piece;
