@@ -1,3 +1,4 @@
+pub mod Headlines
 pub mod Firsts
 pub mod Merges
 pub mod Taken
