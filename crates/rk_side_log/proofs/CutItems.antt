@@ -3,7 +3,7 @@ use Rattle.rk_side_log.proofs.Words.{◌≡◌, ℕ, zero, suc, ◌+◌, ◌<◌
 use Rattle.rk_side_log.proofs.Words.{refl, sym, ap, ◌∙◌, arith, length-append, append_assoc, All, append-nil, All-head, All-tail}
 use Rattle.rk_side_log.proofs.Words.{spelled_of, Held, SEGMENT_BYTES, IsLawfulHeld, spelled, held_spelled, cut_items, sealed_sides}
 use Rattle.rk_side_log.proofs.Words.{spelled_items}
-use Rattle.std.proofs.Common.{sum, fold, add-one}
+use Rattle.std.proofs.Common.{sum, fold}
 use Rattle.std.specs.List.{flat_map}
 use Rattle.std.proofs.lemmas.Bool.{cond_both, leb-true, leb-false}
 use Rattle.std.proofs.lemmas.List.Elements.{All-nil, All-cons, All-append, All-push}
@@ -18,7 +18,7 @@ fits items item = leb (sum (map spelled_of items) + spelled_of item) SEGMENT_BYT
 
 -- ---- the bytes of a segment
 
-abbrev size : List Held → ℕ
+abbrev pub size : List Held → ℕ
 size items = length (spelled_items items)
 
 size_push : (items : List Held) (item : Held) → size (items ++ item ∷ []) ≡ size items + spelled_of item
@@ -42,26 +42,20 @@ module _ (P : List Held → Type 0) (item : Held) (alone : P (item ∷ [])) (mor
       All-cons P items (with_side_item (next ∷ others) item) (All-head P items (next ∷ others) all) (each_with (next ∷ others) (All-tail P items (next ∷ others) all))
 
 -- none is empty
-some_after : (lists : List (List Held)) (items : List Held) → All (λ (s : List Held). 0 < length s) lists → All (λ (s : List Held). 0 < length s) (fold with_side_item lists items)
+pub some_after : (lists : List (List Held)) (items : List Held) → All (λ (s : List Held). 0 < length s) lists → All (λ (s : List Held). 0 < length s) (fold with_side_item lists items)
 some_after lists [] all = all
 some_after lists (x ∷ items) all =
     some_after (with_side_item lists x) items
     (each_with (λ (s : List Held). 0 < length s) x (omega arith) (λ s h e. omega (arith, length-append s (x ∷ []))) lists all)
 
-pub cut_some : (items : List Held) → All (λ (s : List Held). 0 < length s) (cut_items items)
-cut_some items = some_after [] items (All-nil (λ (s : List Held). 0 < length s))
-
 -- none is longer than a segment may be
-within_after : (lists : List (List Held)) (items : List Held) → All IsLawfulHeld items → All (λ (s : List Held). size s ≤ SEGMENT_BYTES) lists
+pub within_after : (lists : List (List Held)) (items : List Held) → All IsLawfulHeld items → All (λ (s : List Held). size s ≤ SEGMENT_BYTES) lists
     → All (λ (s : List Held). size s ≤ SEGMENT_BYTES) (fold with_side_item lists items)
 within_after lists [] lawful all = all
 within_after lists (x ∷ items) lawful all =
     within_after (with_side_item lists x) items (All-tail IsLawfulHeld x items lawful)
     (each_with (λ (s : List Held). size s ≤ SEGMENT_BYTES) x (omega (arith, size_one x, spelled_most x (All-head IsLawfulHeld x items lawful)))
     (λ s h e. omega (arith, size_push s x, length-spelled s, leb-true (sum (map spelled_of s) + spelled_of x) SEGMENT_BYTES e)) lists all)
-
-pub cut_within : (items : List Held) → All IsLawfulHeld items → All (λ (s : List Held). length (spelled_items s) ≤ SEGMENT_BYTES) (cut_items items)
-cut_within items lawful = within_after [] items lawful (All-nil (λ (s : List Held). size s ≤ SEGMENT_BYTES))
 
 -- each has lawful items
 lawful_after : (lists : List (List Held)) (items : List Held) → All IsLawfulHeld items → All (All IsLawfulHeld) lists → All (All IsLawfulHeld) (fold with_side_item lists items)
@@ -102,19 +96,15 @@ packed_with [] item packed = tt
 packed_with (items ∷ []) item packed = grind (arith, cond_both, begins)
 packed_with (items ∷ next ∷ others) item packed = packed_next items next others item packed
 
-packed_after : (lists : List (List Held)) (items : List Held) → ArePacked lists → ArePacked (fold with_side_item lists items)
+pub packed_after : (lists : List (List Held)) (items : List Held) → ArePacked lists → ArePacked (fold with_side_item lists items)
 packed_after lists [] packed = packed
 packed_after lists (x ∷ items) packed = packed_after (with_side_item lists x) items (packed_with lists x packed)
 
-packed_at : (lists : List (List Held)) (place : ℕ) → ArePacked lists → suc place < length lists → SEGMENT_BYTES < size (get_or lists place []) + size (get_or lists (suc place) [])
+pub packed_at : (lists : List (List Held)) (place : ℕ) → ArePacked lists → suc place < length lists → SEGMENT_BYTES < size (get_or lists place []) + size (get_or lists (suc place) [])
 packed_at [] place packed h = absurd (omega arith)
 packed_at (items ∷ []) place packed h = absurd (omega arith)
 packed_at (items ∷ next ∷ others) zero packed h = packed.0
 packed_at (items ∷ next ∷ others) (suc place) packed h = packed_at (next ∷ others) place packed.1 (omega arith)
-
-pub cut_packed : (items : List Held) (place : ℕ) → place + 1 < length (cut_items items)
-    → SEGMENT_BYTES < length (spelled_items (get_or (cut_items items) place [])) + length (spelled_items (get_or (cut_items items) (place + 1) []))
-cut_packed items place h = grind (arith, cut_items, add-one, packed_at, packed_after)
 
 -- ---- all items
 
@@ -123,9 +113,6 @@ whole_with [] item = refl
 whole_with (items ∷ []) item = grind (arith, cond_both, append-nil)
 whole_with (items ∷ next ∷ others) item = grind (arith, append_assoc, (whole_with (next ∷ others) item))
 
-whole_after : (lists : List (List Held)) (items : List Held) → flat_map (λ (s : List Held). s) (fold with_side_item lists items) ≡ flat_map (λ (s : List Held). s) lists ++ items
+pub whole_after : (lists : List (List Held)) (items : List Held) → flat_map (λ (s : List Held). s) (fold with_side_item lists items) ≡ flat_map (λ (s : List Held). s) lists ++ items
 whole_after lists [] = sym (append-nil (flat_map (λ (s : List Held). s) lists))
 whole_after lists (x ∷ items) = grind (arith, whole_with, append_assoc, (whole_after (with_side_item lists x) items))
-
-pub cut_whole : (items : List Held) → flat_map (λ (s : List Held). s) (cut_items items) ≡ items
-cut_whole items = whole_after [] items

@@ -5,12 +5,13 @@
 //! worker's items what the definitions' replay does to a master, and changes nothing where memory is wanting;
 //! [`SideLogs::seal`] hands out the segments that the definitions cut, without taking memory. No value is kept twice:
 //! the segments are all that there is of the items.
+//!
+//! The laws stand in `proofs/Headlines.antt`: what a replay is on a master that has the tablet, and that side segments
+//! are packed: they have all items, in order, and none is empty, too long, or short enough to be joined with the next.
 #![tactic(auto)]
 
-pub use laws::{replay_on_a_master, side_segments_are_packed};
 pub use side_logs::{SideLogs, WORKERS};
 
-mod laws;
 mod replay;
 mod side_log;
 mod side_logs;
