@@ -1,3 +1,4 @@
+pub mod Headlines
 pub mod Words
 pub mod Keeping
 pub mod Courses

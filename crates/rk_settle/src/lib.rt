@@ -6,12 +6,13 @@
 //! that course stops, and the caller has what clients said up to there; and where [`settle`] ends its cluster is at rest. No bound on the
 //! moves of a command is told: it stops after 2^64 - 1 of them.
 //! [`serve_code`], [`priority_code`] and [`advance_code`] tell beforehand why a command is to be refused, if it is.
+//!
+//! The law that settled clusters are at rest, said of the definitions alone, stands in `proofs/Headlines.antt`.
 #![tactic(auto)]
 
 pub use codes::{advance_code, is_tablet, priority_code, serve_code};
 pub use commands::{advance, priority, serve, settle};
 pub use error::SettleError;
-pub use laws::settled_clusters_are_at_rest;
 pub use looks::row_at;
 
 mod acts;
@@ -22,7 +23,6 @@ mod course;
 mod error;
 mod exchange;
 mod hastening;
-mod laws;
 mod looks;
 mod reaching;
 mod serving;
