@@ -8,7 +8,7 @@ use Rattle.std.specs.List.Sorted.{IsPermutation, IsSortedBy, IsStableBy, ties}
 use Rattle.std.proofs.lemmas.Bool.{false≢true}
 use Rattle.std.proofs.lemmas.List.Sorted.{IsPermutation-append_comm, IsPermutation-append_left, IsPermutation-cons, IsPermutation-refl, IsPermutation-trans, ranks_by, sorted_far}
 use Rattle.rk_types.specs.declared.held.Held.{Held}
-use Rattle.rk_lines.specs.Records.{AreByKey, by_key, is_before, put_by_key}
+use Rattle.rk_lines.specs.Records.{by_key, is_before, put_by_key}
 
 -- keys can be compared
 pub key_order : IsStrictWeakOrder is_before
@@ -151,7 +151,7 @@ next_rises (item ∷ []) rises k d within = absurd (omega arith)
 next_rises (item ∷ next ∷ items) rises zero d within = rises.0.0
 next_rises (item ∷ next ∷ items) rises (suc k) d within = next_rises (next ∷ items) rises.1 k d (omega arith)
 
-sorted_from_rises : (items : List Held) → Rises items → IsSortedBy is_before items
+pub sorted_from_rises : (items : List Held) → Rises items → IsSortedBy is_before items
 sorted_from_rises items rises k d low within =
     let next : k + 1 ≡ suc k = omega arith in
     ap (λ n. is_before (get_or items n d) (get_or items k d)) next ∙ next_rises items rises k d (omega arith)
@@ -174,13 +174,9 @@ same_put item (first ∷ items) = go (is_before first item) (same_put item items
         (IsPermutation-cons first (item ∷ items) (put_by_key item items) rest)
     go false rest = IsPermutation-refl (item ∷ first ∷ items)
 
-same_by_key : (items : List Held) → IsPermutation items (by_key items)
+pub same_by_key : (items : List Held) → IsPermutation items (by_key items)
 same_by_key [] = IsPermutation-refl []
 same_by_key (item ∷ items) =
     IsPermutation-trans (item ∷ items) (item ∷ by_key items) (put_by_key item (by_key items))
     (IsPermutation-cons item items (by_key items) (same_by_key items))
     (same_put item (by_key items))
-
--- items by key are just what pins them
-pub by_key_are : (items : List Held) → AreByKey items (by_key items)
-by_key_are items = grind (arith, sorted_from_rises, rises_by_key, same_by_key, kept_by_key)

@@ -1,3 +1,4 @@
+pub mod Headlines
 pub mod Digits
 pub mod ByKey
 pub mod LaneLines
