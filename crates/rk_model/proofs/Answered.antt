@@ -15,7 +15,7 @@ use Rattle.rk_model.proofs.Places.{slice_get_end, slice_get_push_cases, passes_f
 use Rattle.rk_model.proofs.Appended.{merged_appended, All-merged}
 
 -- a line of this client is accepted
-abbrev IsSettledLine : ℕ → Line → Type 0
+abbrev pub IsSettledLine : ℕ → Line → Type 0
 IsSettledLine client line = line.placed.call.client ≡ client → line.placed.accepted ≡ true
 
 -- one more receipt, with the next seq
@@ -270,7 +270,7 @@ settled_if_accepted journals client accepted =
     All-merged (λ (placed : Placed). placed.call.client ≡ client → placed.accepted ≡ true) journals accepted
 
 -- what the callers have for receipts is as before where one of them asks a call
-receipts_asked :
+pub receipts_asked :
     (before after : ℕ → Caller) (client : ℕ) (call : Call)
     → KeepsNow before after client (record { receipts = (before client).receipts; outstanding = Some call })
     → (other : ℕ) → (after other).receipts ≡ (before other).receipts
@@ -281,31 +281,6 @@ receipts_asked before after client call kept other =
     ∙ ap (λ (c : ℕ). (before c).receipts) (sym same))
     (λ (apart : other ≢ client). ap (λ (caller : Caller). caller.receipts) (kept.others other apart))
     (cases_eq other client)
-
--- an ordered history stays so when a caller that has no call outstanding asks one
-pub ordered_asked :
-    (journals : List (List Placed)) (history : List Line) (before after : ℕ → Caller) (client : ℕ) (call : Call)
-    → IsOrdered journals history before → (before client).outstanding ≡ None
-    → KeepsNow before after client (record { receipts = (before client).receipts; outstanding = Some call })
-    → IsOrdered journals history after
-ordered_asked journals history before after client call ordered idle kept =
-    let receipts = receipts_asked before after client call kept in
-    let settled : IsSettled client history = settled_if_idle journals history before client ordered idle in
-    record {
-      numbered = λ other. subst (IsNumberedFrom 1) (sym (receipts other)) (ordered.numbered other);
-      recorded = λ other. subst (All (IsRecorded journals)) (sym (receipts other)) (ordered.recorded other);
-      answered = λ other. ordered.answered other ∙ ap (map told_by) (sym (receipts other));
-      once = ordered.once;
-      asked = λ place line there unaccepted.
-          ⊎_elim
-          (λ (same : line.placed.call.client ≡ client).
-          let accepted : line.placed.accepted ≡ true = all_at (IsSettledLine client) history place line settled there same in
-          absurd (cc))
-          (λ (apart : line.placed.call.client ≢ client).
-          ap (λ (caller : Caller). caller.outstanding) (kept.others line.placed.call.client apart)
-          ∙ ordered.asked place line there unaccepted)
-          (cases_eq line.placed.call.client client);
-    }
 
 -- an empty history is ordered with callers that have no receipt
 pub ordered_at_first :

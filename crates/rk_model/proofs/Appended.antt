@@ -192,7 +192,7 @@ lines_of_unkept lane journal placed unkept =
     ∙ append-nil (filter is_kept journal))
 
 -- nor do the lines of all lanes
-lines_from_unkept :
+pub lines_from_unkept :
     (first lane : ℕ) (journals : List (List Placed)) (placed : Placed)
     → is_kept placed ≡ false → lines_from first (appended journals lane placed) ≡ lines_from first journals
 lines_from_unkept first lane [] placed unkept = refl
@@ -200,12 +200,6 @@ lines_from_unkept first zero (journal ∷ journals) placed unkept =
     ap (λ lines. lines ++ lines_from (first + 1) journals) (lines_of_unkept first journal placed unkept)
 lines_from_unkept first (suc lane) (journal ∷ journals) placed unkept =
     ap (λ lines. lines_of first journal ++ lines) (lines_from_unkept (first + 1) lane journals placed unkept)
-
--- a read that nobody accepted, appended to a journal, changes nothing in the merged history
-pub merged_unkept :
-    (journals : List (List Placed)) (lane : ℕ) (placed : Placed)
-    → is_kept placed ≡ false → merged (appended journals lane placed) ≡ merged journals
-merged_unkept journals lane placed unkept = ap in_order (lines_from_unkept 0 lane journals placed unkept)
 
 -- a later stamp is above all stamps of the journals also after the record
 pub latest_appended :

@@ -1,5 +1,5 @@
 -- Histories joined end to end: legal and the map after, part by part.
-use Rattle.std.proofs.Common.{◌≡◌, ◌↔◌, List, [], ◌∷◌, ◌++◌, refl}
+use Rattle.std.proofs.Common.{◌≡◌, List, [], ◌∷◌, ◌++◌, refl}
 use Rattle.rk_types.specs.declared.history.Placed.{Placed}
 use Rattle.rk_model.specs.History.{Map, IsLegal, IsAllowedIn, map_after, map_with}
 
@@ -30,10 +30,3 @@ pub legal_push :
     (m : Map) (history : List Placed) (placed : Placed)
     → IsLegal m history → IsAllowedIn (map_after m history) placed → IsLegal m (history ++ placed ∷ [])
 legal_push m history placed legal allowed = IsLegal-append m history (placed ∷ []) legal (allowed, tt)
-
--- a legal history is one whose first part is legal and whose rest is legal from the map after it, and only such a one
-pub legal_parts :
-    (m : Map) (front back : List Placed)
-    → IsLegal m (front ++ back) ↔ IsLegal m front × IsLegal (map_after m front) back
-legal_parts m front back =
-    (λ legal. (legal_front m front back legal, legal_back m front back legal), λ parts. IsLegal-append m front back parts.0 parts.1)

@@ -1,6 +1,6 @@
 -- A history, key by key: it is legal where the records of each key are, and so is the map after it.
 use Rattle.std.proofs.Common.{arith}
-use Rattle.std.proofs.Common.{◌≡◌, ◌↔◌, ℕ, true, false, cond, ◌&&◌, eqb, List, [], ◌∷◌, Option, Some, None, refl, sym, ap, ◌∙◌, subst, ⊎_elim}
+use Rattle.std.proofs.Common.{◌≡◌, ℕ, true, false, cond, ◌&&◌, eqb, List, [], ◌∷◌, Option, Some, None, refl, sym, ap, ◌∙◌, subst, ⊎_elim}
 use Rattle.std.proofs.lemmas.Bool.{and_parts, and_from, eqb-true, eq-eqb, cond-false, cases_Bool}
 use Rattle.std.proofs.lemmas.Bool.Decides.{same_from_decides, Decides-like, Decides-eqb}
 use Rattle.std.proofs.lemmas.Slice.Eq.{bytes_eq-Decides}
@@ -133,12 +133,6 @@ legal_from_keys m (placed ∷ history) each =
           (rw apart at (each table key)))
           (cases_Bool (is_at table key placed))),
     )
-
--- a history is legal exactly where, for every table and key, its records of that key are
-pub legal_by_key :
-    (m : Map) (history : List Placed)
-    → IsLegal m history ↔ ((table : ℕ) (key : List ℕ) → IsLegal m (records_at table key history))
-legal_by_key m history = (λ legal table key. legal_at m table key history legal, legal_from_keys m history)
 
 -- the map after a history has at a key what the map after the records of that key has
 pub map_after_by_key :

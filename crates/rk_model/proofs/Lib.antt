@@ -1,3 +1,4 @@
+pub mod Headlines
 pub mod Histories
 pub mod Order
 pub mod Places

@@ -2,19 +2,16 @@
 //!
 //! It says which outcomes a call may have at one map, when a history of records is legal, how the journals of the lanes
 //! merge into one history, and when that is ordered with what the callers keep. [`replays`] finds exactly the first
-//! record that is not allowed; each other function does nothing, and its contract is a law. Nothing here knows of
-//! counters, logs or tables.
+//! record that is not allowed. Nothing here knows of counters, logs or tables.
+//!
+//! The laws stand in `proofs/Headlines.antt`: histories join; each key is by itself, and another key does not mind;
+//! reads change nothing; journals merge into one history, legal ones into a legal one, where the latest record stands
+//! last and an unaccepted read is left out; and an empty history is ordered, and stays so when a call is asked and when
+//! its answer is told.
 #![tactic(auto)]
 
-pub use laws::{
-    another_key_does_not_mind, asking_keeps_order, each_key_is_by_itself, empty_history_is_ordered,
-    histories_join, journals_merge_into_one_history, latest_record_stands_last,
-    legal_journals_merge_into_a_legal_history, reads_change_nothing, told_answer_keeps_order,
-    unaccepted_read_is_left_out,
-};
 pub use line::Line;
 pub use replay::replays;
 
-mod laws;
 mod line;
 mod replay;
