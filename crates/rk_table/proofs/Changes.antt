@@ -80,20 +80,8 @@ pub order_after : (item : Held) (items : List Held) → IsInScanOrder items → 
 order_after item items order = grind (arith, order_with_item)
 
 -- whether an item is in a range is told by its key
-in_from_at : (range : Range) (table : ℕ) (key : List ℕ) (item : Held) → is_at table key item ≡ true → is_in range item ≡ has range table (hash_of key)
+pub in_from_at : (range : Range) (table : ℕ) (key : List ℕ) (item : Held) → is_at table key item ≡ true → is_in range item ≡ has range table (hash_of key)
 in_from_at range table key item here = grind (arith, and_parts, eqb-true, bytes_decides, has, hash_of)
-
--- a key of a dropped range is not found
-pub found_dropped : (range : Range) (items : List Held) (table : ℕ) (key : List ℕ) → has range table (hash_of key) ≡ true → found table key (without range items) ≡ None
-found_dropped range [] table key inside = refl
-found_dropped range (item ∷ items) table key inside =
-    grind (arith, in_from_at, (found_dropped range items table key inside))
-
--- and any other is found as before
-pub found_outside : (range : Range) (items : List Held) (table : ℕ) (key : List ℕ) → has range table (hash_of key) ≡ false → found table key (without range items) ≡ found table key items
-found_outside range [] table key outside = refl
-found_outside range (item ∷ items) table key outside =
-    grind (arith, in_from_at, (found_outside range items table key outside))
 
 pub order_without : (range : Range) (items : List Held) → IsInScanOrder items → IsInScanOrder (without range items)
 order_without range items order = IsStrictlySortedBy-filter item_cmp (λ x. not (is_in range x)) items order

@@ -1,3 +1,4 @@
+pub mod Headlines
 pub mod Ordered
 pub mod InOrder
 pub mod Tokens

@@ -165,17 +165,3 @@ law_whole token items order = passed_and_left token items (rises_in_order items 
 pub law_passed : (token : Token) (limit : ℕ) (items : List Held) → IsInScanOrder items
     → passed (next_token token limit items) items ≡ passed token items ++ batch_at token limit items
 law_passed token limit items order = passed_next token limit items (rises_in_order items order)
-
-pub law_left : (token : Token) (limit : ℕ) (items : List Held) → IsInScanOrder items
-    → left token items ≡ batch_at token limit items ++ left (next_token token limit items) items
-law_left token limit items order = left_goes_on token limit items (rises_in_order items order)
-
-pub law_ends : (token : Token) (limit : ℕ) (items : List Held) → IsInScanOrder items
-    → (next_token token limit items ≡ end) ↔ (left (next_token token limit items) items ≡ [])
-law_ends token limit items order = ends_where_none_left token limit items (rises_in_order items order)
-
-pub law_all : (limit scans : ℕ) (items : List Held) → IsInScanOrder items → length items ≤ scans → scanned limit scans first items ≡ items
-law_all limit scans items order enough = grind (arith, rises_in_order, left_first, scanned_left)
-
-pub law_end : (limit scans : ℕ) (items : List Held) → IsInScanOrder items → length items < scans → token_after limit scans first items ≡ end
-law_end limit scans items order enough = grind (arith, rises_in_order, ends_after, left_first)
