@@ -1,3 +1,4 @@
+pub mod Headlines
 pub mod Loops
 pub mod Counts
 pub mod Sizes

@@ -4,6 +4,9 @@
 //! reads an entry exactly where its spelling begins the bytes, whatever follows, and else names the first fault from
 //! the left; no spelling begins another; [`entries`] reads the entries that stand one after the other. The readers and
 //! writers of single fields in [`fields`] serve other formats that are made of the same fields.
+//!
+//! The laws stand in `proofs/Headlines.antt`: each entry has one spelling, what is spelled is read again, and an item
+//! tells the length of its entry.
 #![tactic(auto)]
 
 pub use entry::{Carried, Entry, Joined, Refused};
@@ -14,7 +17,6 @@ pub use kind::{
     CARRIED_BYTES, END_BYTES, HEAD_BYTES, JOINED_BYTES, Kind, LONGEST_BODY, OBJECT_BYTES,
     REFUSED_BYTES, TOMBSTONE_BYTES, is_list, is_within,
 };
-pub use laws::{item_length, one_spelling, round_trip};
 pub use lists::FIRST_SIDE_SEGMENT;
 pub use reading::decode;
 pub use sequence::entries;
@@ -25,7 +27,6 @@ mod error;
 pub mod fields;
 mod head;
 mod kind;
-mod laws;
 mod lists;
 mod mark;
 mod reading;
