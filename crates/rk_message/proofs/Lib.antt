@@ -1,3 +1,4 @@
+pub mod Headlines
 pub mod Codecs
 pub mod Chains
 pub mod Loops

@@ -3,7 +3,9 @@
 //!
 //! It stands on `rk_types` and `rk_entry`. What it promises: [`encode_frame`] writes the frame of a message, and
 //! [`decode_frame`] reads a message exactly where its frame begins the bytes, and else names the first fault from the
-//! left; no frame begins another; a duplicate equals what it was made from.
+//! left; no frame begins another; a duplicate equals what it was made from. The laws of frames stand in
+//! `proofs/Headlines.antt`: a frame is read again, whatever follows it, and takes as many bytes as are counted; and no
+//! frame begins another.
 //!
 //! A [`Wire`] numbers messages from 1, in the order in which they are sent, hands each out until it is forgotten, and
 //! counts the bytes of their frames without walking over them. Contracts see the messages by number, and how many
@@ -16,7 +18,6 @@ pub use frame::{decode_frame, encode_frame, frame_len};
 pub use framed::Frame;
 pub use handover::{Grant, Prepare, Ready, Tenure, Transfer};
 pub use kind::Kind;
-pub use laws::{frame_round_trip, one_frame};
 pub use message::{Body, Message};
 pub use missing::{NoMessage, WireError};
 pub use pulling::{Got, Pull, Pulled, Want};
@@ -30,7 +31,6 @@ mod frame;
 mod framed;
 mod handover;
 mod kind;
-mod laws;
 mod message;
 mod missing;
 mod pulling;
