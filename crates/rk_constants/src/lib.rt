@@ -3,18 +3,5 @@
 //!
 //! Left out are the constants that a law or an example of their own crate pins: the byte counts of entries and frames, which are the
 //! lengths of what is spelled, and the numbers of kinds. Limits that are numbers in the definitions need no law; those of worn lanes
-//! and sessions are here since no small test comes near them. The crate has no code: its laws are contracts of functions that do
-//! nothing.
+//! and sessions are here since no small test comes near them. The crate has no code: its laws stand in `proofs/Headlines.antt`.
 #![tactic(auto)]
-
-pub use codes::{entries_have_codes, frames_have_codes};
-pub use hashes::keys_have_hashes;
-pub use limits::{batches_have_limits, logs_have_limits, texts_have_limits};
-pub use scripts::{scripts_have_bytes, scripts_have_limits};
-pub use worn::{lanes_wear_out, sessions_wear_out};
-
-mod codes;
-mod hashes;
-mod limits;
-mod scripts;
-mod worn;
