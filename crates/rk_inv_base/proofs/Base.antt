@@ -28,7 +28,8 @@ pub use Rattle.rk_inv_base.proofs.rows.TurnedRows.{all_turned, behind_first, cov
 pub use Rattle.rk_inv_base.proofs.rows.TurnedRows.{none_known, stands_found, stands_still, stood}
 pub use Rattle.rk_inv_base.proofs.views.Alike.{AreAlike, IsAlike, alike_frozen, handed_by_alike, handed_for_grant_alike, speaks_alike}
 pub use Rattle.rk_inv_base.proofs.views.Alike.{still_counts, target_truth_same}
-pub use Rattle.rk_inv_base.proofs.views.ByRows.{CountsFor, IsNextOf, IsRebuiltIn, SaysIn, SoundBeside, SoundRow, SpeaksFor, each_row}
+pub use Rattle.rk_inv_base.proofs.views.ByRows.{IsRebuiltIn, SoundBeside, each_row}
+pub use Rattle.rk_sound.specs.Things.{CountsFor, IsNextOf, SaysIn, SoundRow, SpeaksFor}
 pub use Rattle.rk_inv_base.proofs.views.ByRows.{none_for_owned, row_in, staged_as, view_by_rows, waits_for}
 pub use Rattle.rk_inv_base.proofs.views.Cover.{cover_looks, cover_written, covered_by}
 pub use Rattle.rk_inv_base.proofs.views.Lists.{all_by, all_in, none_kept, none_pass}

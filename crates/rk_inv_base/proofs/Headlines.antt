@@ -12,7 +12,7 @@ use Rattle.rk_inv_base.proofs.Words.{call_asked_in, client_come, closed_off, clo
 use Rattle.rk_inv_base.proofs.Words.{hashes_resolved_in, item_replayed_in, length_told_in, message_forgotten, message_sent}
 use Rattle.rk_inv_base.proofs.Words.{migration_begun_in, passing, place_noted_in, reading, record_accepted_in, recorded_in}
 use Rattle.rk_inv_base.proofs.Words.{refusal_staged_in, request_saved, resolving, tablet_closed_in, tablet_frozen_in, tablet_owned_in}
-use Rattle.rk_inv_base.proofs.Words.{tablet_released_in, token_passed_in, wanting_hash, write_staged_in, View, view, IsSound, SoundView}
+use Rattle.rk_inv_base.proofs.Words.{tablet_released_in, token_passed_in, wanting_hash, write_staged_in, View, view, IsSound, SoundThings, SoundView}
 use Rattle.rk_inv_base.proofs.Base.{view_role_taken, view_gathered, view_pulled, view_taken}
 use Rattle.rk_inv_base.proofs.calls.Accepted.{view_accepted}
 use Rattle.rk_inv_base.proofs.calls.CallAsked.{view_asked, view_is}
@@ -39,6 +39,7 @@ use Rattle.rk_inv_base.proofs.rows.PlaceNoted.{may_be_noted}
 use Rattle.rk_inv_base.proofs.rows.RowAdded.{view_added, view_served}
 use Rattle.rk_inv_base.proofs.rows.RowTurned.{view_changed}
 use Rattle.rk_inv_base.proofs.rows.Serving.{of_its_row, serves_for}
+use Rattle.rk_inv_base.proofs.views.ByThings.{parts_of_things, things_of_parts}
 use Rattle.rk_inv_base.proofs.views.Empty.{empty_is_sound}
 use Rattle.rk_inv_base.proofs.wire.Wire.{each_may_be_sent, view_with_messages, view_with_wire}
 
@@ -47,6 +48,10 @@ use Rattle.rk_inv_base.proofs.wire.Wire.{each_may_be_sent, view_with_messages, v
 -- A lane where nothing has happened is sound, with any number of masters and one backup or more.
 pub new_lanes_are_sound : (lane masters backups : ℕ) → 1 ≤ backups → IsSound (new_world lane masters backups)
 new_lanes_are_sound = empty_is_sound
+
+-- The invariant by its parts is the invariant by the things that it speaks of.
+pub parts_and_things : (v : View) → (SoundView v → SoundThings v) × (SoundThings v → SoundView v)
+parts_and_things v = (things_of_parts v, parts_of_things v)
 
 -- In a sound lane at most one living master answers calls for a range of a row, and for one tablet.
 pub one_master_answers : (w : World) (row : Row) (a b i j : ℕ)

@@ -1,5 +1,6 @@
 pub mod Put
 pub mod ByRows
+pub mod ByThings
 pub mod OwnTablet
 pub mod Masters
 pub mod Lists

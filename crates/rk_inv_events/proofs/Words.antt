@@ -37,7 +37,8 @@ pub use Rattle.rk_inv_base.proofs.rebuilds.SegmentGathered.{needed_stored}
 pub use Rattle.rk_inv_base.proofs.rows.Apart.{contains_cases, in_one_row, one_precedes}
 pub use Rattle.rk_inv_base.proofs.rows.Serving.{found_stands, present}
 pub use Rattle.rk_inv_base.proofs.rows.Speakers.{speaks_serving}
-pub use Rattle.rk_inv_base.proofs.views.ByRows.{SaysIn, SoundRow, row_in}
+pub use Rattle.rk_inv_base.proofs.views.ByRows.{row_in}
+pub use Rattle.rk_sound.specs.Things.{SaysIn, SoundRow}
 pub use Rattle.rk_inv_base.proofs.views.Lists.{all_by, all_in}
 pub use Rattle.rk_inv_base.proofs.views.Masters.{master_same, tablet_apart, tablet_here}
 pub use Rattle.rk_inv_base.proofs.views.Put.{put2_same, put_here, put_same}

@@ -24,7 +24,8 @@ pub use Rattle.rk_inv_base.proofs.rows.Apart.{contains_cases, in_one_row}
 pub use Rattle.rk_inv_base.proofs.rows.Heirs.{heir_post}
 pub use Rattle.rk_inv_base.proofs.rows.Serving.{found_stands}
 pub use Rattle.rk_inv_base.proofs.rows.Speakers.{IsQuiet, quiet_others, speaker_is, speaker_of, waiting_at}
-pub use Rattle.rk_inv_base.proofs.views.ByRows.{CountsFor, SoundBeside, SoundRow, SpeaksFor, row_in, view_by_rows}
+pub use Rattle.rk_inv_base.proofs.views.ByRows.{SoundBeside, row_in, view_by_rows}
+pub use Rattle.rk_sound.specs.Things.{CountsFor, SoundRow, SpeaksFor}
 pub use Rattle.rk_inv_base.proofs.views.Cover.{covered_by}
 pub use Rattle.rk_inv_base.proofs.views.Lists.{all_by}
 pub use Rattle.rk_inv_base.proofs.views.Needed.{AreAmong, among_then, end_some, first_counted, part_weaker, rebuilder_weaker, sides_extend}

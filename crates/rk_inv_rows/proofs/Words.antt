@@ -14,7 +14,8 @@ pub use Rattle.rk_inv_base.proofs.rows.Apart.{contains_cases, has_itself, in_one
 pub use Rattle.rk_inv_base.proofs.rows.RowReplaced.{cover_replaced, covered_replaced, known_replaced, view_replaced}
 pub use Rattle.rk_inv_base.proofs.rows.Serving.{found_stands, meets_either}
 pub use Rattle.rk_inv_base.proofs.rows.TurnedRows.{all_turned, covered_turned, known_turned, new_stands, stands_found, stands_still, stood}
-pub use Rattle.rk_inv_base.proofs.views.ByRows.{IsNextOf, SaysIn, SoundBeside, SoundRow, each_row, none_for_owned, row_in, view_by_rows}
+pub use Rattle.rk_inv_base.proofs.views.ByRows.{SoundBeside, each_row, none_for_owned, row_in, view_by_rows}
+pub use Rattle.rk_sound.specs.Things.{IsNextOf, SaysIn, SoundRow}
 pub use Rattle.rk_inv_base.proofs.views.ByRows.{waits_for}
 pub use Rattle.rk_inv_base.proofs.views.Cover.{covered_by}
 pub use Rattle.rk_inv_base.proofs.views.Lists.{all_by, all_in}

@@ -29,7 +29,8 @@ pub use Rattle.rk_inv_base.proofs.rows.Speakers.{speaker_is, speaker_of, waiting
 pub use Rattle.rk_inv_base.proofs.rows.TurnedRows.{behind_first, stands_found}
 pub use Rattle.rk_inv_base.proofs.views.Alike.{AreAlike, handed_by_alike, handed_for_grant_alike, speaks_alike, still_counts}
 pub use Rattle.rk_inv_base.proofs.views.Alike.{target_truth_same}
-pub use Rattle.rk_inv_base.proofs.views.ByRows.{CountsFor, IsNextOf, SaysIn, SoundBeside, SoundRow, SpeaksFor, row_in, view_by_rows}
+pub use Rattle.rk_inv_base.proofs.views.ByRows.{SoundBeside, row_in, view_by_rows}
+pub use Rattle.rk_sound.specs.Things.{CountsFor, IsNextOf, SaysIn, SoundRow, SpeaksFor}
 pub use Rattle.rk_inv_base.proofs.views.ByRows.{waits_for}
 pub use Rattle.rk_inv_base.proofs.views.Cover.{cover_looks, covered_by}
 pub use Rattle.rk_inv_base.proofs.views.Lists.{all_by}

@@ -20,5 +20,6 @@ pub mod Asked
 pub mod Room
 pub mod Whole
 pub mod Changes
+pub mod Things
 pub mod Moves
 pub mod Small

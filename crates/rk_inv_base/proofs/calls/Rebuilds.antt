@@ -5,7 +5,7 @@ use Rattle.rk_inv_base.proofs.Words.{is_member, own_place, Written, member_mater
 use Rattle.rk_inv_base.proofs.Words.{rebuilder_post, IsRebuilder, MarkFits, NeededOf, READ_BACKUP, StandsLast, has_merged, RoleFits, View}
 use Rattle.rk_inv_base.proofs.Words.{RolesOf, lineage_of}
 use Rattle.rk_tablet_map.specs.Phase.{member as member_at}
-use Rattle.rk_inv_base.proofs.views.ByRows.{CountsFor}
+use Rattle.rk_inv_base.proofs.Words.{CountsFor}
 
 -- a master that rebuilds a row, by what is needed, what masters have written and what backups store
 abbrev pub IsRebuilderBy : (ℕ → EntryEnd → Type 0) → (ℕ → Log) → (ℕ → Written) → (ℕ → Segments) → Row → List Member → ℕ → List Entry → Handover → Completions → Gather → List Ended → List Held → Type 0

@@ -2,7 +2,6 @@
 use Rattle.rk_inv_base.proofs.Words.{◌≡◌, ℕ, suc, ◌≤◌, List, [], ◌∷◌, refl, ⊎_elim, arith, fold, Contains, Entry, floor_by, floor_of}
 use Rattle.rk_inv_base.proofs.Words.{stands_cases}
 use Rattle.rk_inv_base.proofs.logs.Floors.{floor_rises}
-use Rattle.rk_entry.specs.declared.entry.Entry.TheVariants as entries
 
 -- a floor is raised to no more than what the entry alone raises one to
 step_within : (floor bound : ℕ) (entry : Entry) → floor ≤ bound → floor_by 1 entry ≤ bound → floor_by floor entry ≤ bound

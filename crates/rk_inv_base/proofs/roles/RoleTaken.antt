@@ -12,7 +12,8 @@ use Rattle.rk_inv_base.proofs.Words.{TransferIn, MayTakeRole, post_of, bond_of, 
 use Rattle.rk_inv_base.proofs.Words.{is_granted, KeepTerm, RoleFits, role_taken, HasItems, has_all_items, HandoverFits, View, truths, rests}
 use Rattle.rk_inv_base.proofs.Words.{CoverOf, SoundView, Message, has_merged, MayRise}
 use Rattle.rk_message.specs.declared.message.Body.TheVariants as bodies
-use Rattle.rk_inv_base.proofs.views.ByRows.{row_in, IsNextOf, SaysIn, SoundBeside, SoundRow, view_by_rows, waits_for, staged_as}
+use Rattle.rk_inv_base.proofs.views.ByRows.{row_in, SoundBeside, view_by_rows, waits_for, staged_as}
+use Rattle.rk_inv_base.proofs.Words.{IsNextOf, SaysIn, SoundRow}
 use Rattle.rk_inv_base.proofs.views.ByRows.{IsRebuiltIn}
 use Rattle.rk_inv_base.proofs.views.OwnTablet.{SeenTablet, rows_but_one, seen_at}
 use Rattle.rk_inv_base.proofs.views.Put.{put2_by, put2_here, put2_other}

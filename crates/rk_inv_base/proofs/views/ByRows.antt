@@ -1,83 +1,21 @@
 -- The law of rows: what the invariant says of a row, row by row, and what it says beside that. A view whose rows all have the one and
 -- which has the other is sound; so a change of one row is shown by what is to hold of that row.
-use Rattle.rk_inv_base.proofs.Words.{arith, None, eqb, List, Contains, ◌≡◌, ◌≢◌, ℕ, ◌≤◌, true, false, ◌++◌, ◌⊎◌, Some, All, IfSome, drop}
+use Rattle.rk_inv_base.proofs.Words.{arith, None, eqb, List, Contains, ◌≡◌, ◌≢◌, ℕ, ◌≤◌, true, false, ◌⊎◌, Some, All, IfSome}
 use Rattle.rk_inv_base.proofs.Words.{is_some, length, slice_get, Range, Owned, All-contains, Handover, Written, Call, has_key, last_of}
-use Rattle.rk_inv_base.proofs.Words.{may_have_staged, list_any, hash_of, EachIn, meets, map_after, IsLegal, IsRisingAbove, Placed}
-use Rattle.rk_inv_base.proofs.Words.{AreOneMutation, ends_of, lineage_of, IsTabletMap, is_covered, row_of, Row, Node, Body, base_map}
-use Rattle.rk_inv_base.proofs.Words.{items_of, told, is_member, touches, names, IsMaster, is_absent, is_idle, AreHandedOver, IsKnown}
-use Rattle.rk_inv_base.proofs.Words.{IsStagedEnd, ReachAll, TellAll, AreAboveMap, IsNext, handed_by, handed_for_grant, target_truth, SaysOf}
-use Rattle.rk_inv_base.proofs.Words.{Says, AreAbove, post_of, speaks, StillCounts, HasOwnRange, MarkFits, RowIsRebuilt, HandedFits, IsBare}
-use Rattle.rk_inv_base.proofs.Words.{MembersFit, NamedFit, wanted_place, FirstIsDone, IsLast, IsRest, EachHasCall, OnlyIsUnnamed, Waits}
-use Rattle.rk_inv_base.proofs.Words.{RoleFits, KeepTerm, IsFormed, IsPlaced, HasItems, has_all_items, IsInScanOrder, HandoverFits, SentFits}
-use Rattle.rk_inv_base.proofs.Words.{IsAfterSeen, IsTruth, View, truths, rests, SoundView, CoverOf, LogsOf, AskedOf, Entry, Ended}
-use Rattle.rk_inv_base.proofs.Words.{All-weaker, Message, get, Phase, SomeLives}
-
--- what a master has of a row's tablet counts
-abbrev pub CountsFor : View → Row → ℕ → Type 0
-CountsFor v row q = StillCounts (v.live q) (v.handovers q row.tablet).term row.term
-
--- a master speaks for a row: it answers calls or will
-abbrev pub SpeaksFor : View → Row → ℕ → Type 0
-SpeaksFor v row q = speaks (post_of row.phase q) (v.handovers q row.tablet) row.term ≡ true
-
--- a number is next behind all that counts for a row
-abbrev pub IsNextOf : View → Row → ℕ → Type 0
-IsNextOf v row = IsNext (truths v row ++ rests v row)
-
--- what a message says of a row
-abbrev pub SaysIn : View → Row → Node → Node → Body → Type 0
-SaysIn v row = SaysOf row v.logs v.written v.stored v.handovers v.completions v.merged v.live v.handed
+use Rattle.rk_inv_base.proofs.Words.{may_have_staged, hash_of, EachIn, meets, IsLegal, IsRisingAbove, Placed}
+use Rattle.rk_inv_base.proofs.Words.{AreOneMutation, ends_of, lineage_of, IsTabletMap, is_covered, row_of, Row, Body, base_map}
+use Rattle.rk_inv_base.proofs.Words.{told, IsMaster, is_absent, IsKnown}
+use Rattle.rk_inv_base.proofs.Words.{IsStagedEnd, handed_by}
+use Rattle.rk_inv_base.proofs.Words.{Says, RowIsRebuilt, IsBare}
+use Rattle.rk_inv_base.proofs.Words.{wanted_place, IsLast, EachHasCall, Waits}
+use Rattle.rk_inv_base.proofs.Words.{IsInScanOrder, HandoverFits}
+use Rattle.rk_inv_base.proofs.Words.{IsAfterSeen, View, truths, rests, SoundView, CoverOf, LogsOf, AskedOf, Entry, Ended}
+use Rattle.rk_inv_base.proofs.Words.{All-weaker, Message, get, Phase, SomeLives, SoundRow}
 
 -- what is said of a row in a phase in which it may be rebuilt
 abbrev pub IsRebuiltIn : View → Row → Phase → Type 0
 IsRebuiltIn v row phase =
     RowIsRebuilt row phase (truths v row) v.logs v.written v.stored v.handovers v.completions v.gathers v.merged v.records v.live
-
--- what the invariant says of a row, in the order of its parts
-pub record SoundRow (v : View) (row : Row) : Type 0 where
-  pub named : (q : ℕ) → names row.phase q ≡ true → IsMaster v.masters q
-  pub begun : 1 ≤ row.term
-  pub formed : IsFormed row.phase
-  pub placed : All (IsPlaced v.written) (lineage_of row.phase)
-  pub sent : EachIn (λ n m. SentFits row m.body) v.wire
-  pub fitting : (q : ℕ) → CountsFor v row q → RoleFits row q (v.handovers q row.tablet) (v.written q).applied
-  pub ranged : (q : ℕ) → CountsFor v row q → is_member (lineage_of row.phase) q ≡ true → (v.handovers q row.tablet).range ≡ row.range
-  pub at_term : KeepTerm row.phase (λ q. (v.handovers q row.tablet).term) row.term
-  pub truth : IsTruth v.base row.range (truths v row) v.journal
-  pub above : AreAbove (items_of (truths v row)) (items_of (rests v row))
-  pub reached : TellAll row.range v.journal (truths v row)
-  pub recorded : All (IsKnown v.base v.journal) (told (truths v row))
-  pub moving : IfSome (target_truth v.written v.handed row row.phase) (TellAll row.range v.journal)
-  pub answering : (q : ℕ) → CountsFor v row q → SpeaksFor v row q → ReachAll row.range v.journal (ends_of (v.completions q row.tablet))
-  pub ends_granted : IfSome (handed_for_grant row v.handovers v.handed) (λ h. AreHandedOver v.base row.range v.journal h.ends)
-  pub ends_sent : EachIn (λ n m. IfSome (handed_by row v.handovers m.body) (λ h. AreHandedOver v.base row.range v.journal h.ends)) v.wire
-  pub low : AreAboveMap row.range (map_after (base_map v.base) v.journal) (truths v row)
-  pub low_moving :
-      IfSome (target_truth v.written v.handed row row.phase) (AreAboveMap row.range (map_after (base_map v.base) v.journal))
-  pub counted : (q : ℕ) → CountsFor v row q → SpeaksFor v row q → IsNextOf v row (v.handovers q row.tablet).counter
-  pub floor_granted : IfSome (handed_for_grant row v.handovers v.handed) (λ h. IsNextOf v row h.floor)
-  pub floor_sent : EachIn (λ n m. IfSome (handed_by row v.handovers m.body) (λ h. IsNextOf v row h.floor)) v.wire
-  pub goes_on : IsRest v.base row.range (truths v row) (rests v row) v.journal v.asked
-  pub done : FirstIsDone v.written row.range (lineage_of row.phase)
-  pub unnamed : OnlyIsUnnamed v.written row.range (lineage_of row.phase)
-  pub idle :
-      (q : ℕ) → CountsFor v row q → is_idle (v.handovers q row.tablet).role ≡ true
-      → list_any (touches row.range) (drop (v.written q).applied (v.written q).entries) ≡ false
-  pub items :
-      (q : ℕ) → v.live q ≡ true → has_all_items (post_of row.phase q) (v.handovers q row.tablet) row.term ≡ true
-      → HasItems row v.written (v.records q)
-  pub target : MembersFit row v.written v.handovers v.pullings v.records v.handed (lineage_of row.phase)
-  pub handed_on : HandedFits row v.handovers v.completions v.handed (lineage_of row.phase)
-  pub named_items : NamedFit v.written row.range (lineage_of row.phase)
-  pub rebuilt :
-      RowIsRebuilt row row.phase (truths v row) v.logs v.written v.stored v.handovers v.completions v.gathers v.merged v.records v.live
-  pub marks :
-      (q : ℕ)
-      → All (λ mark. mark.tablet ≡ row.tablet → MarkFits row q (v.handovers q row.tablet) (v.live q) (v.written q) mark)
-      (v.written q).marks
-  pub pieces :
-      (q : ℕ) → All (λ mark. mark.tablet ≡ row.tablet → HasOwnRange row.range (v.written q).entries mark) (v.written q).marks
-  pub says : EachIn (λ n m. SaysIn v row m.from m.to m.body) v.wire
 
 -- what the invariant says beside it
 pub record SoundBeside (v : View) : Type 0 where

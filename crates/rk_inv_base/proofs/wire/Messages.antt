@@ -6,7 +6,7 @@ use Rattle.rk_inv_base.proofs.Words.{ByMaster, IsOfTarget, PrepareFits, CloseFit
 use Rattle.rk_inv_base.proofs.Words.{PulledAgrees, GotAgrees, NeededOf, scan_items, View, MessagesOf, is_wanting, Message}
 use Rattle.rk_types.specs.declared.node.Node.TheVariants as nodes
 use Rattle.rk_inv_base.proofs.views.Seen.{AllLook}
-use Rattle.rk_inv_base.proofs.views.ByRows.{SaysIn}
+use Rattle.rk_inv_base.proofs.Words.{SaysIn}
 
 -- what is said where a node is a master, it says as well where that follows
 pub if_master : (node : Node) (Fits Gives : ℕ → Type 0) → ((master : ℕ) → Fits master → Gives master) → IfMaster node Fits → IfMaster node Gives

@@ -19,7 +19,8 @@ use Rattle.rk_inv_base.proofs.Words.{Message}
 use Rattle.rk_inv_logs.proofs.Words.{all_by, by_master, if_master, part_weaker, rebuilder_weaker, put_by, newer_cases, Bond, Closed, Both}
 use Rattle.rk_inv_logs.proofs.Words.{Either, IsGatherOf, CountsFor, SoundBeside, SoundRow, SpeaksFor, row_in, view_by_rows, TellHistory}
 use Rattle.rk_tablet_map.specs.Phase.{member as member_at}
-use Rattle.rk_inv_base.proofs.views.ByRows.{IsNextOf, staged_as}
+use Rattle.rk_inv_base.proofs.views.ByRows.{staged_as}
+use Rattle.rk_sound.specs.Things.{IsNextOf}
 use Rattle.rk_inv_logs.proofs.apply.ItemPut.{found_with, item_cases, item_found}
 use Rattle.rk_inv_rows.proofs.lineage.TargetMaterial.{item_counts}
 use Rattle.rk_inv_logs.specs.apply.Small.{with_item_of, entry_applied, with_one_applied}
@@ -27,7 +28,6 @@ use Rattle.rk_inv_logs.proofs.apply.Members.{HasApplied, StandsBehind, target_ap
 use Rattle.rk_inv_logs.proofs.apply.Inserted.{none_fewer, none_from}
 use Rattle.rk_inv_rows.proofs.lineage.FewerMarks.{waits_with}
 use Rattle.rk_entry.specs.declared.entry.Entry.TheVariants as entries
-use Rattle.rk_message.specs.declared.message.Body.TheVariants as bodies
 use Rattle.rk_transfer.specs.declared.role.Role.TheVariants as roles
 use Rattle.rk_inv_logs.proofs.apply.Members as members
 
