@@ -23,6 +23,7 @@ impl<L: Ledger, M: Ledger, A: Ledger, B: Ledger, N: Ledger> Tally<L, M, A, B, N>
         numbers: Book<N>,
     ) -> Tally<L, M, A, B, N>
         requires { numbers.total ≡ ALL_NUMBERS }
+        ensures { (result.accepted ≡ accepted) × (result.asked ≡ asked) × (result.numbers ≡ numbers) }
     {
         Tally {
             accepted,
