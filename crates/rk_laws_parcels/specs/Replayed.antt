@@ -1,5 +1,5 @@
 -- How the message of a parcel is delivered: by whoever takes the parcel, and once.
-use Rattle.std.specs.Prelude.{◌≡◌, ℕ, Option, Some, None, Result, Ok, Err}
+use Rattle.std.specs.Prelude.{ℕ, Option, Some, None, Result, Ok, Err}
 use Rattle.rk_types.specs.NumberMap.{get}
 use Rattle.rk_world.specs.Backup.{Called, Gave}
 use Rattle.rk_world.specs.Refusals.{delivery_fault}

@@ -2,8 +2,7 @@
 use Rattle.std.proofs.Common.{Contains, List, None, Option, Some, arith, drop, false, flat_map, inl, inr, is_some, leb-true, ltb-true}
 use Rattle.std.proofs.Common.{nat_le, nat_lt, refl, slice_get, sym, take, true, ℕ, ◌&&◌, ◌+◌, ◌-◌, ◌∙◌, ◌≡◌}
 use Rattle.rk_entry.specs.declared.entry.Entry.TheVariants as entries
-use Rattle.rk_transfer.specs.declared.role.Role.TheVariants as roles
-use Rattle.rk_inv_base.proofs.Words.{All-contains, Any-from_list_any, Contains-append_left, Entry, HasOwnRange, Held, IsOfRange, Mark, Role}
+use Rattle.rk_inv_base.proofs.Words.{All-contains, Any-from_list_any, Contains-append_left, Entry, HasOwnRange, Held, IsOfRange, Mark}
 use Rattle.rk_inv_base.proofs.Words.{Row, SoundView, View, Written, and_parts, applied_entries, cases_Bool, counting, counts, entries_from}
 use Rattle.rk_inv_base.proofs.Words.{false≢true, is_in, is_marked, is_serving, items_in, items_of, log_material, named, number_of, row_of}
 use Rattle.rk_inv_base.proofs.Words.{side_entries, unmarked_from}

@@ -1,14 +1,13 @@
 -- A sound and well formed lane stays sound when a master answers a get: what it tells is what the journal leaves, and the read gets its
 -- record at once.
 use Rattle.std.proofs.Common.{List, None, Option, Some, [], ap, arith, eq-eqb, false, length, not, refl, slice_get, subst, sym, true, ℕ}
-use Rattle.std.proofs.Common.{◌&&◌, ◌++◌, ◌-◌, ◌||◌, ◌∙◌, ◌∷◌, ◌≡◌}
+use Rattle.std.proofs.Common.{◌&&◌, ◌++◌, ◌||◌, ◌∙◌, ◌∷◌, ◌≡◌}
 use Rattle.rk_model.proofs.Places.{slice_get_end}
 use Rattle.rk_model.specs.History.{record_of as entry_record}
 use Rattle.rk_model.specs.Machine.{Entry as MapEntry, gone, live as live_entry, read_of as machine_read}
 use Rattle.rk_types.specs.declared.call.Answer.TheVariants as answers
-use Rattle.rk_types.specs.declared.call.Op.TheVariants as ops
 use Rattle.rk_world.specs.Requests.{read_of}
-use Rattle.rk_inv_base.proofs.Words.{Call, Held, IsMaster, IsSound, IsTruth, IsWellFormed, Ledger, Master, MaySend, Message, Op, Outcome}
+use Rattle.rk_inv_base.proofs.Words.{Call, Held, IsMaster, IsSound, IsTruth, IsWellFormed, Ledger, Master, MaySend, Message, Outcome}
 use Rattle.rk_inv_base.proofs.Words.{Placed, Reads, Request, RequestFits, Served, Tablet, View, World, answering, base_map, call_of}
 use Rattle.rk_inv_base.proofs.Words.{choice_of, cond-false, cond-true, filled, found, hash_of, is_known, is_mutation, is_of_mutation}
 use Rattle.rk_inv_base.proofs.Words.{items_of, lives, map_after, master_at, never, newest, next_record, place_of, record_of, staged}

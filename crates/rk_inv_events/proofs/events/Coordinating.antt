@@ -1,7 +1,6 @@
 -- A sound and well formed lane stays sound when a tablet is added, when one begins to move or is split, and when crashes are noticed.
 use Rattle.std.proofs.Common.{All, Bool, Contains, IfSome, List, None, Option, Some, [], ap, arith, eq-eqb, filter, fold, map, not, refl}
 use Rattle.std.proofs.Common.{subst, suc, true, unwrap_or, zero, ℕ, ◌&&◌, ◌++◌, ◌+◌, ◌==◌, ◌∷◌, ◌≡◌, ◌≤◌, sym, ◌∙◌}
-use Rattle.rk_entry.specs.declared.entry.Entry.TheVariants as entries
 use Rattle.rk_world.specs.Migrations.{migrate_fault_by, migrate_fault_of}
 use Rattle.rk_world.specs.Notices.{is_named}
 use Rattle.rk_world.specs.Splits.{tablet_split, tablet_split_fault_by, tablet_split_fault_of}

@@ -3,10 +3,9 @@
 use Rattle.std.proofs.Common.{arith, Bool, Contains, IfSome, List, None, Option, Some, [], ap, cond, eq-eqb, eqb-true, ne_eqb, refl, subst}
 use Rattle.std.proofs.Common.{sym, true, ℕ, ◌&&◌, ◌==◌, ◌∙◌, ◌∷◌, ◌≡◌, ◌≢◌}
 use Rattle.rk_message.specs.declared.message.Body.TheVariants as bodies
-use Rattle.rk_transfer.specs.declared.role.Role.TheVariants as roles
 use Rattle.rk_types.specs.declared.node.Node.TheVariants as nodes
 use Rattle.rk_inv_base.proofs.Words.{All-cons, All-contains, AreHandedOver, Body, Coordinated, Handed, HasSome, IsOf, IsSound, IsWellFormed}
-use Rattle.rk_inv_base.proofs.Words.{JoinedIn, MaySend, Message, Moving, Opening, Owned, Phase, Ready, ReadyIn, ReadyTarget, Role, Row}
+use Rattle.rk_inv_base.proofs.Words.{JoinedIn, MaySend, Message, Moving, Opening, Owned, Phase, Ready, ReadyIn, ReadyTarget, Row}
 use Rattle.rk_inv_base.proofs.Words.{SoundView, Tenure, Transfer, TransferIn, View, World, about, and_from, answered, at_term, changed_rows}
 use Rattle.rk_inv_base.proofs.Words.{ends_of, get, is_noticed, is_opening, joined_in, number_of, own_to, place_noted, post_of, ready_in}
 use Rattle.rk_inv_base.proofs.Words.{release_to, report, row_at, row_for, row_moved, row_of, row_owned, transfer_in, unanswered, view}

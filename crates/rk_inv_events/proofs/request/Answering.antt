@@ -2,7 +2,6 @@
 -- when a master answers and serves no call: it ignores the Request, tells of another master, or asks the client to come again, once what it
 -- lacks of the key is wanted.
 use Rattle.std.proofs.Common.{ap, not, subst, sym, true, ℕ, ◌≡◌}
-use Rattle.rk_types.specs.declared.call.Answer.TheVariants as answers
 use Rattle.rk_inv_base.proofs.Words.{Choice, Ignores, IsSound, Redirects, Request, Wants, World, answering, call_of, chosen, hash_of, lives}
 use Rattle.rk_inv_base.proofs.Words.{master_at, to_master, view, with_master, worked_at}
 use Rattle.rk_inv_base.proofs.Headlines.{sound_wanted}

@@ -3,8 +3,6 @@ use Rattle.std.proofs.Common.{arith, ◌≡◌, ℕ, ◌<◌, Bool, true, List, 
 use Rattle.rk_inv_base.proofs.Words.{cond_both, ⊤, hash_of, Call, Op, Held, Allowed, change_of, last_version, record_of, map_entry_of}
 use Rattle.rk_inv_base.proofs.Words.{end_of_item, outcome_of, fresh_choice, is_known, item_of, needs_state, operation, version_of, Tablet}
 use Rattle.rk_inv_base.proofs.Words.{Choice, Writes, Refuses, refused_as}
-use Rattle.rk_types.specs.declared.call.Op.TheVariants as ops
-use Rattle.rk_types.specs.declared.call.Outcome.TheVariants as outcomes
 use Rattle.rk_model.specs.History.{record_of as map_record_of}
 use Rattle.rk_model.specs.Machine.{Entry as MapEntry}
 use Rattle.rk_inv_events.proofs.Words.{not-false}

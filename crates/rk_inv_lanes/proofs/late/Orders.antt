@@ -1,5 +1,5 @@
 -- What a master makes of a message that comes late: it stays as it is, and at most says again what it said before.
-use Rattle.std.proofs.Common.{◌≡◌, ◌<◌, ℕ, false, [], refl, sym, subst, ⊎_elim, arith, ◌⊎◌, eq-eqb, ne_eqb, nat_lt, le-ltb}
+use Rattle.std.proofs.Common.{◌≡◌, ◌<◌, ℕ, false, [], refl, sym, subst, arith, ◌⊎◌, eq-eqb, ne_eqb, nat_lt, le-ltb}
 use Rattle.rk_inv_base.proofs.Words.{Node, Role, Prepare, Tenure, Body, and_left, and_right, close_taken, prepare_taken, ready, ready_again}
 use Rattle.rk_inv_base.proofs.Words.{transfer, transferring, Master, tablet_at, told_master, is_frozen, is_frozen_at, Worked, changed}
 use Rattle.rk_inv_base.proofs.Words.{sending, cond-false, cond-true}

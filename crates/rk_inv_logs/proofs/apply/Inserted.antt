@@ -1,7 +1,7 @@
 -- Lists of entries into which others came: what they tell more, where one entry came in that has the newest item of its key, and how the
 -- next entry of a log comes to what is applied.
 use Rattle.std.proofs.Common.{◌≡◌, Bool, List, [], ◌++◌, ap, sym, ◌∙◌, subst, inl, inr, ◌⊎◌, append_assoc, filter, Contains, flat_map, ℕ}
-use Rattle.std.proofs.Common.{◌+◌, ◌≤◌, ◌<◌, max, true, false, ◌∷◌, Some, refl, arith, fold, All, ◌-◌, length, drop, take, slice_get}
+use Rattle.std.proofs.Common.{◌+◌, ◌≤◌, ◌<◌, max, true, false, ◌∷◌, Some, refl, arith, fold, All, length, drop, take, slice_get}
 use Rattle.std.proofs.Common.{length-take-le}
 use Rattle.rk_inv_base.proofs.Words.{Contains-append_cases, Contains-append_left, Contains-append_right, filter-append, Entry, cases_Bool}
 use Rattle.rk_inv_base.proofs.Words.{flat_map-append, All-contains, All-head, fold-append, Held, filter_kept, filter_left_out, newest_is}

@@ -1,7 +1,7 @@
 -- What members of a lineage, targets and masters that rebuild have once the next entry of a log is applied: beside what they had, that
 -- entry, or the items that it names.
 use Rattle.std.proofs.Common.{◌≡◌, ℕ, ◌+◌, ◌≤◌, max, Bool, true, false, List, [], ◌∷◌, ◌++◌, Some, refl, sym, ap, ◌∙◌, inl, inr, ◌⊎◌, arith}
-use Rattle.std.proofs.Common.{slice_get, Option, take, Contains, drop, subst, append_assoc, filter, ◌-◌, flat_map}
+use Rattle.std.proofs.Common.{slice_get, Option, take, Contains, drop, subst, append_assoc, filter, flat_map}
 use Rattle.rk_inv_base.proofs.Words.{cases_Bool, cases_eq, cases_lt, Member, Range, Entry, filter_kept, filter_left_out, Base, last_of}
 use Rattle.rk_inv_base.proofs.Words.{is_marked, unmarked, unmarked_from, counting, counts, material_of, named_by, side_entries}
 use Rattle.rk_inv_base.proofs.Words.{log_material, Written, applied_entries, lineage_rest, lineage_truth, member_rest, member_truth}

@@ -6,7 +6,7 @@ use Rattle.rk_inv_base.proofs.Words.{Call, Waits, All-contains, All-nil, All-tai
 use Rattle.rk_inv_base.proofs.Words.{lineage_of, Rebuilding, Row, Base, Placed, LastCall, record_of, base_map, items_in, items_of, last_of}
 use Rattle.rk_inv_base.proofs.Words.{told, told_by, counts, of_key, tells_of, own_place, Written, member_rest, member_truth, IsKnown}
 use Rattle.rk_inv_base.proofs.Words.{TellAll, MayApply, AreAboveMap, has_merged, IsFound, named_items, IsStaged, AreApart, call_ends}
-use Rattle.rk_inv_base.proofs.Words.{records_of, View, truths, rests, SoundView, cases_eq, false≢true, IfSome_then, meets, Role, Phase}
+use Rattle.rk_inv_base.proofs.Words.{records_of, View, truths, rests, SoundView, cases_eq, false≢true, IfSome_then, meets, Phase}
 use Rattle.rk_inv_base.proofs.Words.{none_stands, first_of, is_absent, is_wanting, Post, post_of, rebuilder_post, is_granted, HasItems}
 use Rattle.rk_inv_base.proofs.Words.{IsTableOf, has_all_items, All-weaker, ends_of, cases_Bool, All-cons, All-head, Carried, is_marked}
 use Rattle.rk_inv_base.proofs.Words.{FirstIsDone, IsEntryOf, number_of, row_of, Mark, HasOwnRange, IsOfRange, MarkFits, EachHasCall}
@@ -26,7 +26,6 @@ use Rattle.rk_inv_logs.proofs.apply.Applies.{Applies, IsKnownIn, StaysBare, Tell
 use Rattle.rk_inv_logs.proofs.apply.Applies.{of_applied, of_target, ordered_now, view_applied, waits_on}
 use Rattle.rk_inv_logs.proofs.apply.ItemPut.{bare_with, table_apart}
 use Rattle.rk_entry.specs.declared.entry.Entry.TheVariants as entries
-use Rattle.rk_transfer.specs.declared.role.Role.TheVariants as roles
 
 -- ---- what a row tells
 

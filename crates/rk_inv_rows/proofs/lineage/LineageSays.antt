@@ -2,7 +2,7 @@
 -- which the tablet passes on stays sound.
 use Rattle.std.proofs.Common.{◌≡◌, ℕ, Bool, true, false, cond, eqb, List, ◌∷◌, Option, Some, refl, sym, ap, ◌∙◌, ⊎_elim, inl, ◌⊎◌, eq-eqb}
 use Rattle.std.proofs.Common.{eqb-true, Contains, ◌&&◌, [], None, arith, ◌++◌, IfSome}
-use Rattle.rk_inv_base.proofs.Words.{false≢true, or_right, NumberMap, Ended, Member, Node, Completions, Handover, Role, lineage_of, Phase}
+use Rattle.rk_inv_base.proofs.Words.{false≢true, or_right, NumberMap, Ended, Member, Node, Completions, Handover, lineage_of, Phase}
 use Rattle.rk_inv_base.proofs.Words.{Owned, Opening, Moving, Rebuilding, Row, Grant, Transfer, CopySegment, ReadSegment, Rebuilt, Handed}
 use Rattle.rk_inv_base.proofs.Words.{is_member, names, is_opening, is_wanting, HasSource, HasLineage, IsClosing, IsOnlyRebuilder, IsOwnedBy}
 use Rattle.rk_inv_base.proofs.Words.{IsOwnedByOther, IsOwner, IsRebuiltBy, IsMovingOrOwned, GrantIn, ReadyIn, TransferIn, JoinedIn}
@@ -16,7 +16,6 @@ use Rattle.rk_inv_rows.proofs.Words.{member as member_at, MayTakeLineage, differ
 use Rattle.rk_inv_rows.proofs.Words.{view_replaced, stands_found, row_in, SoundRow, lineage_taken}
 use Rattle.rk_inv_rows.specs.lineage.Passing.{PassesOn}
 use Rattle.rk_inv_rows.proofs.lineage.Histories.{range_at}
-use Rattle.rk_transfer.specs.declared.role.Role.TheVariants as roles
 use Rattle.rk_message.specs.declared.message.Body.TheVariants as bodies
 
 -- this holds wherever a row begins to move, and wherever it has moved

@@ -1,5 +1,5 @@
 -- What bears a mark in a log is of a row that is rebuilt: no Joined does, and it counts for no other row.
-use Rattle.std.proofs.Common.{◌≡◌, ℕ, suc, ◌-◌, Bool, true, false, cond, List, [], ◌∷◌, Option, Some, refl, ap, ⊎_elim, arith, drop}
+use Rattle.std.proofs.Common.{◌≡◌, ℕ, suc, ◌-◌, Bool, true, false, cond, List, [], ◌∷◌, Option, Some, refl, ap, arith, drop}
 use Rattle.std.proofs.Common.{is_some, slice_get, take, Contains}
 use Rattle.rk_inv_base.proofs.Words.{false_from_ne_true, false≢true, All-contains, Range, Entry, Joined, number_of, row_of, Row, is_marked}
 use Rattle.rk_inv_base.proofs.Words.{unmarked, counting, counts, Mark, IsOfRange, marked_entries, View, SoundView}

@@ -19,7 +19,6 @@ use Rattle.rk_inv_rows.proofs.lineage.Pieces.{covered_of}
 use Rattle.rk_inv_rows.proofs.lineage.TargetMaterial.{meets_itself}
 use Rattle.rk_inv_rows.proofs.lineage.Untouched.{done_settled, each_misses}
 use Rattle.rk_inv_rows.proofs.lineage.Histories.{range_at}
-use Rattle.rk_entry.specs.declared.entry.Entry.TheVariants as entries
 use Rattle.rk_transfer.specs.declared.role.Role.TheVariants as roles
 
 -- a role has rebuilt a tablet, with its closing entry at a place that is applied

@@ -4,7 +4,7 @@ use Rattle.std.proofs.Common.{⊎_elim, arith, inl, inr, All, drop, is_some, len
 use Rattle.std.proofs.Common.{eqb-true, le-leb, slice_index_or}
 use Rattle.rk_inv_base.proofs.Words.{and_from, cases_Bool, false_from_ne_true, false≢true, All-append, All-contains, All-filter}
 use Rattle.rk_inv_base.proofs.Words.{IfSome_then, list_any, hash_of, has, Call, Ended, Placed, Member, Node, Range, is_at_parts, Map, is_at}
-use Rattle.rk_inv_base.proofs.Words.{map_after, last_version, is_mutation, Entry, ends_of, Role, lawful_turned, lineage_of, changed_rows}
+use Rattle.rk_inv_base.proofs.Words.{map_after, last_version, is_mutation, Entry, ends_of, lawful_turned, lineage_of, changed_rows}
 use Rattle.rk_inv_base.proofs.Words.{is_covered, row_of, Phase, Owned, Rebuilding, Row, Body, base_map, told, is_member, last_of}
 use Rattle.rk_inv_base.proofs.Words.{is_mark_of, is_marked, touches, of_key, has_key, Mark, AreHandedOver, IsKnown, IsReached, IsStagedEnd}
 use Rattle.rk_inv_base.proofs.Words.{ReachAll, TellAll, is_record_in, AreAboveMap, IsNext, handed_by, handed_for_grant, target_truth}
@@ -28,13 +28,12 @@ use Rattle.rk_inv_rows.proofs.lineage.MarksBeside.{rebuilt_beside, says_beside, 
 use Rattle.rk_inv_rows.proofs.lineage.MarksTaken.{rests_kept, taken_by, truths_kept}
 use Rattle.rk_inv_base.proofs.rows.OtherRows.{all_others}
 use Rattle.rk_inv_rows.proofs.lineage.RebuiltCounter.{next_now}
-use Rattle.rk_inv_rows.proofs.lineage.RebuiltMaterial.{placed_within, settled, at}
+use Rattle.rk_inv_rows.proofs.lineage.RebuiltMaterial.{placed_within, settled}
 use Rattle.rk_inv_rows.proofs.lineage.LineageSays.{says, HasPassed, member_range}
 use Rattle.rk_inv_rows.proofs.lineage.RebuiltSays.{member_here, rebuilt_passes}
 use Rattle.rk_inv_rows.proofs.lineage.Untouched.{each_misses}
 use Rattle.rk_inv_base.proofs.views.ByRows.{staged_as}
 use Rattle.rk_inv_rows.proofs.lineage.FewerMarks.{waits_with}
-use Rattle.rk_transfer.specs.declared.role.Role.TheVariants as roles
 
 module _ (v : View) (row : Row) (lineage : List Member) (to place : ℕ) (ends : List Ended) (sound : SoundView v) (may : MayOwnRebuilt v row lineage to place ends) where
   -- the records that are made

@@ -1,5 +1,5 @@
 -- A view stays sound when a row moves, once its source is frozen and has told what it hands over, and its target waits at its place.
-use Rattle.std.proofs.Common.{◌≡◌, ℕ, ◌≤◌, Bool, true, false, cond, eqb, List, [], ◌∷◌, ◌++◌, Some, refl, sym, ap, subst, ◌∙◌, arith}
+use Rattle.std.proofs.Common.{◌≡◌, ℕ, ◌≤◌, Bool, true, cond, eqb, List, [], ◌∷◌, ◌++◌, Some, refl, sym, ap, subst, ◌∙◌, arith}
 use Rattle.std.proofs.Common.{inr, append-nil, All, IfSome, filter, Contains, flat_map, option_map, eq-eqb, eqb-true}
 use Rattle.rk_inv_base.proofs.Words.{cond_both, false≢true, All-cons, All-head, All-nil, get_other, get_same, NumberMap, get, insert}
 use Rattle.rk_inv_base.proofs.Words.{Member, map_after, Entry, is_in, Handover, Role, lineage_of, Phase, Opening, Moving, Row, base_map}

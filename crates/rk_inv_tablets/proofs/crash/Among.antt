@@ -1,6 +1,6 @@
 -- What stands in lists that are made of others: of each element's list, and of the numbers that entries name.
 use Rattle.std.proofs.Common.{ℕ, List, [], Contains, flat_map}
-use Rattle.rk_inv_base.proofs.Words.{Range, Entry, named, named_by, slice_get_front}
+use Rattle.rk_inv_base.proofs.Words.{Range, Entry, named, named_by}
 use Rattle.rk_inv_tablets.proofs.ready.OwnItems.{flat_stands, number_stands, named_from as joined_named}
 pub use Rattle.rk_inv_base.proofs.Words.{slice_get_front as stands_front}
 pub use Rattle.rk_inv_tablets.proofs.ready.OwnItems.{flat_from, flat_stands as flat_of, at_place as place_there}

@@ -16,7 +16,6 @@ use Rattle.rk_inv_tablets.proofs.crash.MergeTells.{IsToldBy}
 use Rattle.rk_inv_tablets.proofs.crash.PieceRows.{marked_names_none}
 use Rattle.rk_inv_tablets.proofs.crash.Unmarked.{first_stands, free_stands}
 use Rattle.rk_inv_tablets.proofs.ready.OwnItems.{at_place, flat_from, flat_stands, stands_at, none_stands}
-use Rattle.rk_entry.specs.declared.entry.Entry.TheVariants as entries
 pub use Rattle.rk_inv_tablets.proofs.ready.OwnItems.{stands_at as stands_there}
 
 -- what counts of the side segments that a member's unmarked entries name

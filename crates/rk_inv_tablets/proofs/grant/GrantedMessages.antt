@@ -1,6 +1,6 @@
 -- What messages say of a row whose target is granted its tablet: a Grant is taken by it no more, and no report tells that it waited.
 use Rattle.std.proofs.Common.{arith, ◌≡◌, ℕ, false, List, [], ◌∷◌, sym, ◌∙◌}
-use Rattle.rk_inv_base.proofs.Words.{false≢true, get, Ended, Member, Node, Completions, Handover, Role, lineage_of, Phase, Opening, Tenure}
+use Rattle.rk_inv_base.proofs.Words.{false≢true, get, Ended, Member, Node, Completions, Handover, lineage_of, Phase, Opening, Tenure}
 use Rattle.rk_inv_base.proofs.Words.{Transfer, Body, Got, Pulled, Rebuilt, Written, is_opening, AskAgrees, CloseFits, GotAgrees}
 use Rattle.rk_inv_base.proofs.Words.{GrantAgrees, IsOfTarget, JoinedIn, OwnFits, PrepareFits, PulledAgrees, ReadyIn, RebuildFits, RebuiltIn}
 use Rattle.rk_inv_base.proofs.Words.{ReleaseFits, TransferIn, View, Tablet, IfMaster, ByMaster}

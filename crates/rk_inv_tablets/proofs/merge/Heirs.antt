@@ -1,5 +1,5 @@
 -- A master that gathers for a tablet is the one that rebuilds its row, and keeps the row's term.
-use Rattle.std.proofs.Common.{◌≡◌, ℕ, true, List, Option, Some, None, refl, arith, false, eqb-true}
+use Rattle.std.proofs.Common.{◌≡◌, ℕ, true, List, Option, Some, None, refl, arith, eqb-true}
 use Rattle.rk_inv_base.proofs.Words.{cond_both, false≢true, Member, Role, Phase, Rebuilding, is_member, is_gathering, Post, bond_of}
 use Rattle.rk_inv_base.proofs.Words.{post_of, rebuilder_post, target_post, Holds}
 use Rattle.rk_inv_tablets.proofs.Words.{GoesOn}

@@ -2,7 +2,7 @@
 -- the row and is no target, and the ends that it keeps are told by the truth or the rest of the row.
 use Rattle.std.proofs.Common.{arith, ℕ, [], ◌∷◌, refl, ◌≡◌, zero, suc, ◌-◌, List, ◌++◌, filter, length, sym, ap, ◌∙◌, ⊎_elim, length-append}
 use Rattle.std.proofs.Common.{All, drop, take, flat_map, true, inr, ◌⊎◌, Some, inl, Contains, eq-eqb, IfSome, ◌≤◌, false}
-use Rattle.rk_inv_base.proofs.Words.{All-cons, All-head, Node, Role, Body, Rebuilt, RebuiltIn, View, cases_eq, EachIn, All-nil}
+use Rattle.rk_inv_base.proofs.Words.{All-cons, All-head, Node, Body, Rebuilt, RebuiltIn, View, cases_eq, EachIn, All-nil}
 use Rattle.rk_inv_base.proofs.Words.{take-append-le, All-push, Contains-append_right, list_any, Range, Entry, is_in, completions_from}
 use Rattle.rk_inv_base.proofs.Words.{lineage_of, Phase, Rebuilding, known_of, items_of, Gather, by_member, touches, named, side_entries}
 use Rattle.rk_inv_base.proofs.Words.{merge, own_place, Written, Mark, stored_of, HasOwnRange, IsPieceOf, IsRebuilder, MarkFits, NeededOf}
@@ -28,7 +28,6 @@ use Rattle.rk_inv_tablets.proofs.merge.Pieces.{from_piece}
 use Rattle.rk_inv_tablets.proofs.grow.Turned.{of_tablet, seen_apart}
 use Rattle.rk_inv_tablets.proofs.ready.Outside.{second_member, former_behind}
 use Rattle.rk_inv_tablets.proofs.merge.Collected.{collected}
-use Rattle.rk_transfer.specs.declared.role.Role.TheVariants as roles
 
 -- What messages say of a row for which a rebuild merges: no report tells what its master had merged before, and all else looks as it did.
 

@@ -1,7 +1,7 @@
 -- Items of what counts for a range: each is of an entry that bears it, an item of the range or a Joined that names its segment.
 use Rattle.std.proofs.Common.{◌≡◌, ℕ, suc, zero, ◌<◌, ◌+◌, Bool, true, false, ◌||◌, List, [], ◌∷◌, Some, refl, ⊎_elim, ◌⊎◌, inl, inr, arith}
 use Rattle.std.proofs.Common.{slice_get, take, Contains, flat_map, not, filter, All}
-use Rattle.rk_inv_base.proofs.Words.{false≢true, or_left, or_right, Contains-append_cases, Contains-append_left, Contains-append_right}
+use Rattle.rk_inv_base.proofs.Words.{or_left, or_right, Contains-append_cases, Contains-append_left, Contains-append_right}
 use Rattle.rk_inv_base.proofs.Words.{meets, Held, Range, Entry, is_in, items_in, items_of, is_marked, unmarked, counting, counts}
 use Rattle.rk_inv_base.proofs.Words.{is_joined_in, material_of, named, named_by, Mark, All-contains, All-contains_itself, All-weaker}
 use Rattle.rk_inv_base.proofs.Words.{list_any_none, list_any, without}

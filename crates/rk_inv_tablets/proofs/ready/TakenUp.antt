@@ -12,7 +12,6 @@ use Rattle.rk_inv_tablets.proofs.ready.OwnItems.{named_counts, sides_into, stand
 use Rattle.rk_inv_tablets.proofs.crash.MarkedPieces.{mark_of}
 use Rattle.rk_inv_tablets.proofs.crash.PieceRows.{row_of_mark}
 use Rattle.rk_inv_tablets.proofs.crash.Unmarked.{free_place, joined_applied}
-use Rattle.rk_entry.specs.declared.entry.Entry.TheVariants as entries
 
 -- records of a master are those with which it may begin to rebuild a row, where its own entries count from this place
 pub record IsTakenUp (v : View) (row : Row) (master from : ℕ) (records : List Held) : Type 0 where

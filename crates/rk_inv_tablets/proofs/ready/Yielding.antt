@@ -5,7 +5,7 @@ use Rattle.std.proofs.Common.{inl, inr, IfSome, drop}
 use Rattle.rk_inv_base.proofs.Words.{cases_eq, false≢true, meets, Ended, Held, Member, is_in, IsInScanOrder, Handover, lineage_of, row_of}
 use Rattle.rk_inv_base.proofs.Words.{Phase, Rebuilding, Row, Gather, is_member, is_absent, Pulling, Tablet, IsItemWithin, IsWithinRows}
 use Rattle.rk_inv_base.proofs.Words.{is_wanting, KeepTerm, RoleFits, HandoverFits, View, truths, CoverOf, SoundView, both_ways, list_any}
-use Rattle.rk_inv_base.proofs.Words.{is_serving, Role, Body, Handed, second_of, touches, is_idle, may_have_staged, IsKnown, IsStagedEnd}
+use Rattle.rk_inv_base.proofs.Words.{is_serving, Body, Handed, second_of, touches, is_idle, may_have_staged, IsKnown, IsStagedEnd}
 use Rattle.rk_inv_base.proofs.Words.{handed_by, handed_for_grant, is_waiting, second_has, post_of, rebuilder_post, speaks, rests}
 use Rattle.rk_inv_tablets.proofs.Words.{put_by, put_here, put_other, IsRebuilderIn, IsBareOf, tablets_taken, outside_post, heir_post}
 use Rattle.rk_inv_tablets.proofs.Words.{row_in, staged_as}

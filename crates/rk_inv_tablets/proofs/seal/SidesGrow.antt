@@ -1,6 +1,6 @@
 -- What a log with more side segments keeps: what backups store of it are first parts still, and what it has written is read as before.
-use Rattle.std.proofs.Common.{◌≡◌, ℕ, suc, ◌+◌, ◌-◌, ◌<◌, ◌≤◌, true, false, List, [], ◌∷◌, ◌++◌, length, map, Option, Some, None, refl, sym}
-use Rattle.std.proofs.Common.{ap, ◌∙◌, ⊎_elim, arith, ◌≢◌, ◌==◌, IfSome}
+use Rattle.std.proofs.Common.{◌≡◌, ℕ, suc, ◌+◌, ◌-◌, ◌<◌, ◌≤◌, true, List, [], ◌∷◌, ◌++◌, length, map, Option, Some, None, refl, sym}
+use Rattle.std.proofs.Common.{ap, ◌∙◌, ⊎_elim, arith, ◌==◌, IfSome}
 use Rattle.rk_inv_base.proofs.Words.{cases_lt, false≢true, map-append, find-append, IfSome_then, option_or, Ended, Held, Member, Range}
 use Rattle.rk_inv_base.proofs.Words.{NumberedBytes, spelled_all, Entry, FIRST_SIDE_SEGMENT, Completions, Handover, Row, cut, Known}
 use Rattle.rk_inv_base.proofs.Words.{is_whole, Log, bytes_of, is_side_stored, known_of, numbered, segment_of, side_segments, EntryEnd}

@@ -22,7 +22,6 @@ use Rattle.rk_inv_wellformed.proofs.masters.Changes.{closing_is, joining_is, goi
 use Rattle.rk_inv_wellformed.proofs.maps.Lists.{either_way, by_found}
 use Rattle.rk_world.specs.Rebuilds.{merged_at}
 use Rattle.rk_inv_tablets.proofs.steady.Handovers.{others_given_up_seal, close_seals, grant_seals, own_seals, prepare_seals, release_seals}
-use Rattle.rk_entry.specs.declared.entry.Entry.TheVariants as entries
 use Rattle.rk_message.specs.declared.message.Body.TheVariants as bodies
 
 -- What targets have sealed is there where a target takes what it pulled, and also where it seals its side lists.

@@ -1,5 +1,5 @@
 -- What goes on in a lane: who was added there is added still, and no fewer messages were sent, whatever happens.
-use Rattle.std.proofs.Common.{◌≡◌, ◌+◌, ℕ, Bool, true, false, List, [], ◌∷◌, fold, Option, Some, None, refl, sym, ap, ◌∙◌, ⊎_elim, arith}
+use Rattle.std.proofs.Common.{◌≡◌, ◌+◌, ℕ, Bool, true, false, List, [], ◌∷◌, fold, Option, Some, None, refl, sym, ap, ◌∙◌, arith}
 use Rattle.std.proofs.Common.{is_some}
 use Rattle.rk_inv_base.proofs.Words.{cases_eq, cond_both, none-some, get_other, get_same, NumberMap, get, insert, Call, Traffic}
 use Rattle.rk_inv_base.proofs.Words.{with_message, Body, Message, Called, accept, ask, asking_by, is_asked, ledger_asked, ledger_taken}
