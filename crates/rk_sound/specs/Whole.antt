@@ -2,7 +2,6 @@
 use Rattle.std.specs.Prelude.{List}
 use Rattle.rk_entry.specs.declared.entry.Entry.{Entry}
 use Rattle.rk_tablet_map.specs.declared.row.Row.{Row}
-use Rattle.rk_world.specs.Written.{rest_of}
 use Rattle.rk_world.specs.World.{World, written_in, standing, bytes_of_logs}
 use Rattle.rk_sound.specs.View.{View, view, truths, rests}
 use Rattle.rk_sound.specs.Nodes.{Nodes}
@@ -22,10 +21,6 @@ use Rattle.rk_sound.specs.Rebuilds.{Rebuilds}
 use Rattle.rk_sound.specs.Messages.{Messages}
 use Rattle.rk_sound.specs.Asked.{Asked}
 use Rattle.rk_sound.specs.Room.{Room}
-
--- the rest of a row
-abbrev pub rest_in : World → Row → List Entry
-rest_in w row = rest_of (written_in w) row
 
 -- ---- each part, of a view
 

@@ -1,6 +1,6 @@
 -- Runs of a cluster: lists of occurrences that may come, where replicas answer what they store.
-use Rattle.std.specs.Prelude.{◌≡◌, List, [], ◌∷◌, ⊤}
-use Rattle.rk_world.specs.Cluster.{Cluster, ClusterMay, Happens, KeepsCalm, Occurrence, cluster_after, cluster_run, lane_at}
+use Rattle.std.specs.Prelude.{List, [], ◌∷◌, ⊤}
+use Rattle.rk_world.specs.Cluster.{Cluster, ClusterMay, Happens, KeepsCalm, Occurrence, cluster_after, lane_at}
 use Rattle.rk_world.specs.Replicas.{AllTell, IsTold}
 
 -- where all backups of a lane tell what they store, an event comes with what their replicas answer, one of which may fail
@@ -14,9 +14,3 @@ IsRun cluster [] = ⊤
 IsRun cluster (occurrence ∷ later) =
     ClusterMay cluster occurrence × KeepsCalm cluster occurrence × ReplicasTell cluster occurrence
     × IsRun (cluster_after cluster occurrence) later
-
--- a run leads from one cluster to another
-pub record Leads (before after : Cluster) : Type 0 where
-  pub occurred : List Occurrence
-  pub run : IsRun before occurred
-  pub is : after ≡ cluster_run before occurred

@@ -10,7 +10,6 @@ use Rattle.rk_types.specs.declared.held.Held.{Held}
 use Rattle.rk_entry.specs.declared.entry.Entry.{Entry}
 use Rattle.rk_entry.specs.declared.entry.Entry.TheVariants as entries
 use Rattle.rk_entry.specs.declared.entry.Refused.{Refused}
-use Rattle.rk_done.specs.Completions.{completions_from, Completions}
 
 -- the outcome that an end tells
 abbrev pub outcome_of : End → Outcome
@@ -57,7 +56,3 @@ items_in (entries.Joined joined) = []
 -- the items among entries, in their order
 abbrev pub items_of : List Entry → List Held
 items_of entries = flat_map items_in entries
-
--- how each client's last call ended, as entries tell it
-abbrev pub completions : List Entry → Completions
-completions entries = completions_from [] (told entries)

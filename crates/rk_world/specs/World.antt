@@ -5,10 +5,8 @@ use Rattle.rk_types.specs.NumberMap.{NumberMap, get_or, insert}
 use Rattle.rk_types.specs.declared.call.Call.{Call}
 use Rattle.rk_types.specs.declared.held.Held.{Held}
 use Rattle.rk_outside.specs.Segments.{Segments}
-use Rattle.rk_entry.specs.declared.entry.Entry.{Entry}
 use Rattle.rk_log.specs.Known.{nothing}
 use Rattle.rk_log.specs.Log.{Log}
-use Rattle.rk_tablet_map.specs.declared.row.Row.{Row}
 use Rattle.rk_message.specs.Wire.{with_message, silent, Traffic}
 use Rattle.rk_message.specs.declared.message.Message.{Message}
 use Rattle.rk_world.specs.Base.{Base, no_base}
@@ -18,7 +16,7 @@ use Rattle.rk_world.specs.Coordinator.{Coordinator, new_coordinator}
 use Rattle.rk_world.specs.Backup.{no_segments}
 use Rattle.rk_world.specs.Journal.{last_stamp}
 use Rattle.rk_world.specs.Ledger.{Ledger, new_ledger, marks_of, seen_of}
-use Rattle.rk_world.specs.Written.{Written, written_by, truth_of}
+use Rattle.rk_world.specs.Written.{Written, written_by}
 
 -- the world of a lane: its number; its masters, crashed ones too; how many backups it has, and what each of them stores, where its
 -- replica tells that; the coordinator; the wire; the ledger; the masters that have crashed; the greatest number that has stood in
@@ -159,7 +157,3 @@ tablet_in w master tablet = tablet_at (master_at w master) tablet
 -- what a master has written
 abbrev pub written_in : World → ℕ → Written
 written_in w master = written_by (master_at w master) (marks_of w.ledger master)
-
--- the truth of a row
-abbrev pub truth_in : World → Row → List Entry
-truth_in w row = truth_of w.base (written_in w) row
