@@ -37,12 +37,6 @@ module _ (master segment at : ℕ) (bytes : List ℕ) where
   gap_told count (Some segments) long gap =
       cond-false (is_accepted at bytes (bytes_of (segments master segment))) _ [] (and_left _ _ (lt-leb at _ (omega arith)))
 
-  -- nor where the bytes do not agree
-  pub other_told : (same : Bool) (told : Option Segments) → OfStored (λ stored. same ≡ is_accepted at bytes stored) told → same ≡ false
-      → OfStored (λ stored. added at bytes stored ≡ []) told
-  other_told same None is not_same = tt
-  other_told same (Some segments) is not_same = cond-false (is_accepted at bytes (bytes_of (segments master segment))) _ [] (sym is ∙ not_same)
-
   -- nor where all of them are stored
   pub all_told : (count : ℕ) (told : Option Segments) → IfSome told (λ segments. count ≡ lengths_of segments master segment) → length bytes ≤ count - at
       → OfStored (λ stored. added at bytes stored ≡ []) told

@@ -19,10 +19,6 @@ rose_same (Some count) = inl (omega arith)
 pub rose_then : (some more : ℕ) (before mid now : Option ℕ) → RoseBy some before mid → RoseBy more mid now → RoseBy (some + more) before now
 rose_then some more before mid now first second = grind arith
 
--- one more fault
-pub rose_once : (before now : ℕ) → Rose before now → RoseBy 1 (Some before) (Some now)
-rose_once before now rose = grind (arith, rose)
-
 -- ---- how often a replica fails
 
 pub times_both : (lane place : ℕ) (first second : List Fate) → times_lost lane place (first ++ second) ≡ times_lost lane place first + times_lost lane place second
@@ -88,9 +84,6 @@ module _ {R : Type 0} (faults : R → ℕ) where
 
 pub is_of_it : (lane place left : ℕ) → is_of lane place (Lost lane place left) ≡ true
 is_of_it lane place left = λ i. eq-eqb lane lane refl i && eq-eqb place place refl i
-
-pub is_of_other_place : (lane place left other : ℕ) → (place ≡ other → ⊥) → is_of lane other (Lost lane place left) ≡ false
-is_of_other_place lane place left other apart = grind (arith, ne_eqb)
 
 module _ {R : Type 0} (faults : R → ℕ) where
   pub lanes_failed_once : (lanes : List (LaneState R)) (place left : ℕ) (receiver : Option Node) (old new : LaneState R) → slice_get lanes place ≡ Some old

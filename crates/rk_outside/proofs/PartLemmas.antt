@@ -4,10 +4,6 @@ use Rattle.std.specs.Io.KnownBytes.{Appends}
 use Rattle.std.proofs.KnownBytes.{Appends-trans}
 use Rattle.rk_outside.specs.Parts.{AppendsPart}
 
--- the whole is a first part
-pub AppendsPart-whole : (old new : Option (List ℕ)) (bytes : List ℕ) → Appends old new bytes → AppendsPart old new bytes
-AppendsPart-whole old new bytes written = record { front = bytes; back = []; parts = sym (append-nil bytes); written = written }
-
 -- a first part of some bytes is one of these bytes and what comes behind them
 pub AppendsPart-more : (old new : Option (List ℕ)) (bytes more : List ℕ) → AppendsPart old new bytes → AppendsPart old new (bytes ++ more)
 AppendsPart-more old new bytes more part = record {

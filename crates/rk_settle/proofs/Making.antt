@@ -24,9 +24,6 @@ pub record Makes (fate : Fate) (course next : Course) : Type 0 where
 
 -- ---- calls
 
-pub deliver_in_calls : (cluster : Cluster) (lane number : ℕ) (fate : Fate) → All (CallsBy cluster fate) (deliver_in_makes cluster lane number fate)
-deliver_in_calls cluster lane number fate = grind (arith, lane_at, cond_both, has_receiver, delivery)
-
 -- ---- moves
 
 -- nothing occurs

@@ -30,10 +30,6 @@ module _ {X : Type 0} where
 abbrev tablet_with : Tablet → ℕ → List Held → Tablet
 tablet_with tablet worker items = with_pulling tablet (record tablet.pulling { sides = set tablet.pulling.sides worker items })
 
--- the master with it
-abbrev put_in : Master → ℕ → List Held → NumberMap Tablet → Tablet → Master
-put_in master number records tablets tablet = record master { records = records; tablets = insert tablets number tablet }
-
 module _ (master : Master) (number worker : ℕ) (tablet : Tablet) (order : IsInOrder master.tablets) (within : worker < length tablet.pulling.sides) where
   -- it is the tablet that is found
   there : (now : Replayed) → tablet_at (master_with master number tablet worker now) number ≡ tablet_with tablet worker now.items

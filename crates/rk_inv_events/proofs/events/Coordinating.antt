@@ -22,9 +22,6 @@ use Rattle.rk_inv_events.proofs.Words.{tablet_added, by_found}
 
 -- ---- ranges of a well formed lane are not empty
 
-entry_some : (limits : Limits) (entry : Entry) → IsFormedEntry limits entry → HasSomeIn entry
-entry_some limits entry formed = grind arith
-
 module _ (w : World) (formed : IsWellFormed w) where
   -- what a new master has, and each that is well formed, each master of the lane has
   pub of_master : (P : Master → Type 0) (q : ℕ) → P (new_master q [])
@@ -50,9 +47,6 @@ module _ (w : World) (formed : IsWellFormed w) where
   tablets_some : (q tablet : ℕ) → 1 ≤ (tablet_in w q tablet).handover.term → HasSome (tablet_in w q tablet).handover.range
   tablets_some q tablet = of_tablet (λ t. 1 ≤ t.handover.term → HasSome t.handover.range) q tablet (λ begun. absurd (omega (arith, begun)))
       (λ m its t is begun. (its.tablets tablet t is).range.last.least_is)
-
-  orders_some : EachIn (λ number message. IfSome (range_in message.body) HasSome) w.wire.messages
-  orders_some number message found = grind (arith, limits_of, range_in)
 
 -- ---- a tablet is added
 
