@@ -1,5 +1,5 @@
--- The invariant by the things that it speaks of: a row with its members, a master with its log and its tablets, a message, a client, and
--- the journal. These are the sentences of the sixteen parts of `Whole`, each below the name of its part; that both say the same is proved
+-- The invariant by the things that it speaks of: a row with its members, a master and a tablet, a master with its log, a message, a client,
+-- and the journal. These are the sentences of the sixteen parts of `Whole`, each below the name of its part; that both say the same is proved
 -- (`parts_and_things` in `rk_inv_base`). What a message says of a row is said of the row as well, since a change of either needs it.
 use Rattle.std.specs.Prelude.{◌≡◌, ◌≢◌, ◌≤◌, ℕ, true, false, ◌++◌, ◌⊎◌, Some, None, IfSome, All, drop, is_some, length, slice_get}
 use Rattle.std.specs.List.{flat_map, list_any}
@@ -123,37 +123,46 @@ pub record SoundRow (v : View) (row : Row) : Type 0 where
   -- Messages
   pub says : EachIn (λ n m. SaysIn v row m.from m.to m.body) v.wire
 
+-- ---- a master and a tablet
+
+pub record SoundTablet (v : View) (q tablet : ℕ) : Type 0 where
+  -- Terms
+  pub kept : All (λ row. HandoverFits row tablet (v.handovers q tablet)) v.rows
+  pub begun : is_absent (v.handovers q tablet).role ≡ false → 1 ≤ (v.handovers q tablet).term
+  pub apart :
+      (other : ℕ) → tablet ≢ other → is_absent (v.handovers q tablet).role ≡ false → is_absent (v.handovers q other).role ≡ false
+      → meets (v.handovers q tablet).range (v.handovers q other).range ≡ false
+  -- Cover
+  pub unknown : row_of v.rows tablet ≡ None → (v.handovers q tablet).term ≡ 0
+  pub ranges : 1 ≤ (v.handovers q tablet).term → IsWithinRows v.rows (v.handovers q tablet).range
+  -- Roles
+  pub has_row : v.live q ≡ true → is_absent (v.handovers q tablet).role ≡ false → is_some (row_of v.rows tablet) ≡ true
+  -- Calls
+  pub known :
+      v.live q ≡ true
+      → All (λ end. IsKnown v.base v.journal end ⊎ IsStagedEnd v.rows (rests v) q tablet (v.handovers q tablet).term end)
+      (ends_of (v.completions q tablet))
+  -- Receives
+  pub bare :
+      IfSome (wanted_place (v.handovers q tablet).role)
+      (λ from. IsBare (v.handovers q tablet).range from (v.written q) (v.records q))
+
 -- ---- a master with its log and its tablets
 
 pub record SoundMaster (v : View) (q : ℕ) : Type 0 where
+  pub tablets : (tablet : ℕ) → SoundTablet v q tablet
   -- Nodes
   pub numbered : v.numbers q ≡ q
   pub known_backups : IsMaster v.masters q → length (v.logs q).known ≡ v.backups
   pub left : v.live q ≡ false → SomeLives v.masters v.live
-  -- Terms
-  pub kept : (tablet : ℕ) → All (λ row. HandoverFits row tablet (v.handovers q tablet)) v.rows
-  pub begun : (tablet : ℕ) → is_absent (v.handovers q tablet).role ≡ false → 1 ≤ (v.handovers q tablet).term
-  pub apart :
-      (a b : ℕ) → a ≢ b → is_absent (v.handovers q a).role ≡ false → is_absent (v.handovers q b).role ≡ false
-      → meets (v.handovers q a).range (v.handovers q b).range ≡ false
   -- Cover
-  pub unknown : (tablet : ℕ) → row_of v.rows tablet ≡ None → (v.handovers q tablet).term ≡ 0
   pub marks : All (λ mark. is_some (row_of v.rows mark.tablet) ≡ true) (v.written q).marks
-  pub ranges : (tablet : ℕ) → 1 ≤ (v.handovers q tablet).term → IsWithinRows v.rows (v.handovers q tablet).range
   pub entries : All (IsEntryWithin v.rows) (v.written q).entries
   pub sides : All (IsItemWithin v.rows) (flat_map (λ items. items) (v.written q).sides)
   pub items : All (IsItemWithin v.rows) (v.records q)
   pub wholes : All (IsOfWholeRows v.rows) (v.written q).entries
-  -- Roles
-  pub has_row :
-      (tablet : ℕ) → v.live q ≡ true → is_absent (v.handovers q tablet).role ≡ false → is_some (row_of v.rows tablet) ≡ true
   -- Logs
   pub log : IsLog (v.logs q) (v.written q) (stored_of v.stored q)
-  -- Calls
-  pub known :
-      (tablet : ℕ) → v.live q ≡ true
-      → All (λ end. IsKnown v.base v.journal end ⊎ IsStagedEnd v.rows (rests v) q tablet (v.handovers q tablet).term end)
-      (ends_of (v.completions q tablet))
   -- Rest
   pub waiting :
       v.live q ≡ true → EachIn (λ place call. Waits v.rows (v.handovers q) (v.written q) q place call) (v.calls q)
@@ -161,11 +170,6 @@ pub record SoundMaster (v : View) (q : ℕ) : Type 0 where
   pub found : v.live q ≡ true → EachHasCall (v.calls q) (v.written q)
   -- Tables
   pub ordered : IsInScanOrder (v.records q)
-  -- Receives
-  pub bare :
-      (tablet : ℕ)
-      → IfSome (wanted_place (v.handovers q tablet).role)
-      (λ from. IsBare (v.handovers q tablet).range from (v.written q) (v.records q))
 
 -- ---- a client
 

@@ -7,27 +7,29 @@ pub things_of_parts : (v : View) → SoundView v → SoundThings v
 things_of_parts v sound = record {
   rows = each_row v sound;
   masters = λ q. record {
+    tablets = λ tablet. record {
+      kept = sound.terms.kept q tablet;
+      begun = sound.terms.begun q tablet;
+      apart = sound.terms.apart q tablet;
+      unknown = sound.cover.unknown q tablet;
+      ranges = sound.cover.ranges q tablet;
+      has_row = sound.roles.known q tablet;
+      known = sound.calls.known q tablet;
+      bare = sound.receives.bare q tablet;
+    };
     numbered = sound.nodes.numbered q;
     known_backups = sound.nodes.known q;
     left = sound.nodes.left q;
-    kept = sound.terms.kept q;
-    begun = sound.terms.begun q;
-    apart = sound.terms.apart q;
-    unknown = sound.cover.unknown q;
     marks = sound.cover.marks q;
-    ranges = sound.cover.ranges q;
     entries = sound.cover.entries q;
     sides = sound.cover.sides q;
     items = sound.cover.items q;
     wholes = sound.cover.wholes q;
-    has_row = sound.roles.known q;
     log = sound.logs.each q;
-    known = sound.calls.known q;
     waiting = sound.rest.waiting q;
     are_last = sound.rest.are_last q;
     found = sound.rest.found q;
     ordered = sound.records.ordered q;
-    bare = sound.receives.bare q;
   };
   messages = each_may_be_sent v sound;
   clients = λ client. record { last = sound.asked.last client; again = sound.asked.again client };
@@ -42,9 +44,9 @@ parts_of_things v things =
     let of = things.masters in
     let says = things.messages in
     let cover : CoverOf v = record {
-      unknown = λ q. (of q).unknown;
+      unknown = λ q tablet. ((of q).tablets tablet).unknown;
       marks = λ q. (of q).marks;
-      ranges = λ q. (of q).ranges;
+      ranges = λ q tablet. ((of q).tablets tablet).ranges;
       entries = λ q. (of q).entries;
       sides = λ q. (of q).sides;
       items = λ q. (of q).items;
@@ -58,17 +60,17 @@ parts_of_things v things =
       λ (q : ℕ). (of q).numbered,
       λ (q : ℕ). (of q).known_backups,
       λ (q : ℕ). (of q).left,
-      λ (q : ℕ). (of q).kept,
-      λ (q : ℕ). (of q).begun,
-      λ (q : ℕ). (of q).apart,
-      λ (q : ℕ). (of q).has_row,
+      λ (q tablet : ℕ). ((of q).tablets tablet).kept,
+      λ (q tablet : ℕ). ((of q).tablets tablet).begun,
+      λ (q tablet : ℕ). ((of q).tablets tablet).apart,
+      λ (q tablet : ℕ). ((of q).tablets tablet).has_row,
       λ (q : ℕ). (of q).log,
-      λ (q : ℕ). (of q).known,
+      λ (q tablet : ℕ). ((of q).tablets tablet).known,
       λ (q : ℕ). (of q).waiting,
       λ (q : ℕ). (of q).are_last,
       λ (q : ℕ). (of q).found,
       λ (q : ℕ). (of q).ordered,
-      λ (q : ℕ). (of q).bare,
+      λ (q tablet : ℕ). ((of q).tablets tablet).bare,
       λ (n : ℕ) (m : Message) (there : get v.wire n ≡ Some m). (says n m there).logs_say,
       λ (n : ℕ) (m : Message) (there : get v.wire n ≡ Some m). (says n m there).others_say,
       λ (n : ℕ) (m : Message) (there : get v.wire n ≡ Some m). (says n m there).request_says,
