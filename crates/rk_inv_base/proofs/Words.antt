@@ -185,7 +185,7 @@ pub use Rattle.rk_world.specs.Replicas.{AllTell}
 pub use Rattle.rk_world.specs.Replies.{filled, place_of, reply_at, reply_with}
 pub use Rattle.rk_world.specs.Requests.{answering, call_of, choice_of, chosen, counted_up, fresh_choice, is_known, item_of, needs_state}
 pub use Rattle.rk_world.specs.Requests.{operation, refusal_of, request_taken, state_of, version_of, with_staged, refusal_staged}
-pub use Rattle.rk_world.specs.Requests.{write_staged}
+pub use Rattle.rk_world.specs.Requests.{value_written, write_staged}
 pub use Rattle.rk_world.specs.RoleTests.{is_absent, is_frozen, is_frozen_at, is_gathering, is_idle, is_rebuilding, is_receiving}
 pub use Rattle.rk_world.specs.RoleTests.{is_receiving_at, may_have_staged}
 pub use Rattle.rk_world.specs.Room.{HasRoom, MOST_BYTES}

@@ -376,10 +376,10 @@ module _ (w : World) (sound : IsSound w) where
       requests_are_answered called none = writes.sound_answered w number master client request sound formed there called none
 
       -- A write may be staged, where the master's log has room.
-      pub writes_are_staged : (tablet : ℕ) (value : Option (List ℕ)) → HasSegmentLeft (log_in w master)
-          → choice_in w master client request ≡ Writes tablet value → Taken master (request_message client master request)
-      writes_are_staged tablet value room chose =
-          writes.sound_write w number master client request sound formed there room tablet value chose
+      pub writes_are_staged : (tablet : ℕ) → HasSegmentLeft (log_in w master)
+          → choice_in w master client request ≡ Writes tablet → Taken master (request_message client master request)
+      writes_are_staged tablet room chose =
+          writes.sound_write w number master client request sound formed there room tablet chose
 
       -- So may a refusal.
       pub refusals_are_staged : (found : ℕ) (absent : Bool) → HasSegmentLeft (log_in w master)

@@ -160,7 +160,7 @@ pub use Rattle.rk_world.specs.Refusals.{where_true, worn, worn_session, WORN_BYT
 pub use Rattle.rk_world.specs.Replies.{filled, filled_body, filled_reply, place_of, reply_at, reply_with}
 pub use Rattle.rk_world.specs.Requests.{call_of, choice_of, chosen, counted_up, item_of, refusal_of, request_taken, with_staged}
 pub use Rattle.rk_world.specs.Requests.{with_wanted, state_of, version_of, write_staged, answering, choice_at, fresh_choice}
-pub use Rattle.rk_world.specs.Requests.{mutation_choice, needs_state, operation, read_of}
+pub use Rattle.rk_world.specs.Requests.{mutation_choice, needs_state, operation, read_of, value_written}
 pub use Rattle.rk_world.specs.RoleTests.{is_absent, is_frozen_at, is_gathering, is_receiving, is_receiving_at, is_frozen}
 pub use Rattle.rk_world.specs.Room.{HasRoom, HasRoomIn, MOST_BYTES, MOST_NUMBER}
 pub use Rattle.rk_world.specs.Runs.{Accepts, AllHaveRoom, Asks, Happening, Happens, IsCalm, IsCalmEvent, IsCalmHappening, MayAllOccur}

@@ -1,4 +1,4 @@
--- What a master chooses for a lawful call can be carried out.
+-- What a master chooses for a call can be carried out.
 use Rattle.rk_master.proofs.Words.{arith, ◌≡◌, ℕ, Bool, true, false, cond, eqb, List, [], ◌∷◌, Option, Some, None, refl, sym, ap, ◌∙◌}
 use Rattle.rk_master.proofs.Words.{IsSome, find, nat_cmp, is_eq, unsigned_tied, false≢true, eq-eqb, NumberMap, get, Call, Held, Tablet}
 use Rattle.rk_master.proofs.Words.{Master, serves_key, choice_of, fresh_choice, IsFit}
@@ -6,8 +6,6 @@ use Rattle.rk_types.specs.declared.call.Op.{Op}
 use Rattle.rk_done.specs.Completions.{look}
 use Rattle.rk_done.specs.declared.completion.Look.{Look}
 use Rattle.rk_model.specs.Merged.{is_mutation}
-use Rattle.rk_message.specs.Calls.{IsLawfulOp}
-use Rattle.rk_world.specs.Premises.{IsLawfulCall}
 use Rattle.rk_world.specs.Master.{serving}
 use Rattle.rk_world.specs.Requests.{choice_at, mutation_choice, operation, state_of}
 
@@ -30,23 +28,23 @@ found_there (entry ∷ tablets) table key number tablet found =
     go false false other later at = later at
 
 -- what an operation does at a tablet that is there
-operation_fits : (tablets : NumberMap Tablet) (number : ℕ) (op : Op) (live : Option (ℕ × List ℕ)) → IsSome (get tablets number) → IsLawfulOp op
+operation_fits : (tablets : NumberMap Tablet) (number : ℕ) (op : Op) (live : Option (ℕ × List ℕ)) → IsSome (get tablets number)
     → IsFit tablets (operation number op live)
-operation_fits tablets number op live there lawful = grind (arith, eqb, false≢true)
+operation_fits tablets number op live there = grind (arith, eqb, false≢true)
 
 -- what is done with a call that has not ended and is not staged
-fresh_fits : (tablets : NumberMap Tablet) (number : ℕ) (tablet : Tablet) (call : Call) (state : Option Held) → IsSome (get tablets number) → IsLawfulOp call.op
+fresh_fits : (tablets : NumberMap Tablet) (number : ℕ) (tablet : Tablet) (call : Call) (state : Option Held) → IsSome (get tablets number)
     → IsFit tablets (fresh_choice number tablet call state)
-fresh_fits tablets number tablet call state there lawful = grind (arith, operation_fits)
+fresh_fits tablets number tablet call state there = grind (arith, operation_fits)
 
 -- what is done with a mutation
-mutation_fits : (master : Master) (number : ℕ) (tablet : Tablet) (call : Call) (known : Look) → IsSome (get master.tablets number) → IsLawfulOp call.op
+mutation_fits : (master : Master) (number : ℕ) (tablet : Tablet) (call : Call) (known : Look) → IsSome (get master.tablets number)
     → IsFit master.tablets (mutation_choice master number tablet call known)
-mutation_fits master number tablet call known there lawful = grind (arith, fresh_choice, fresh_fits)
+mutation_fits master number tablet call known there = grind (arith, fresh_choice, fresh_fits)
 
--- what a master does with a lawful call
-pub choice_fits : (master : Master) (call : Call) → IsLawfulCall call → IsFit master.tablets (choice_of master call)
-choice_fits master call lawful = at (serving master call.table call.key) refl
+-- what a master does with a call
+pub choice_fits : (master : Master) (call : Call) → IsFit master.tablets (choice_of master call)
+choice_fits master call = at (serving master call.table call.key) refl
   where
     at : (o : Option (ℕ × Tablet)) → serving master call.table call.key ≡ o → IsFit master.tablets (choice_at master call o)
     at None is = tt
@@ -56,5 +54,5 @@ choice_fits master call lawful = at (serving master call.table call.key) refl
         there = found_there master.tablets call.table call.key number tablet is
 
         go : (b : Bool) → IsFit master.tablets (cond b (mutation_choice master number tablet call (look tablet.completions call.client call.seq)) (fresh_choice number tablet call (state_of master call)))
-        go true = mutation_fits master number tablet call (look tablet.completions call.client call.seq) there lawful.op
-        go false = fresh_fits master.tablets number tablet call (state_of master call) there lawful.op
+        go true = mutation_fits master number tablet call (look tablet.completions call.client call.seq) there
+        go false = fresh_fits master.tablets number tablet call (state_of master call) there

@@ -5,7 +5,7 @@ ghost use Rattle.rk_world.specs.Requests as requests;
 
 use rk_entry::{Entry, Refused};
 use rk_message::{Body, Message, Reply, Request};
-use rk_types::{Answer, Call, Held, NoMemory, Node, Value};
+use rk_types::{Answer, Call, Held, NoMemory, Node, Op, Value};
 
 /// The call that a request of a client asks.
 pub(crate) fn call_of(client: u32, request: Request) -> Call
@@ -37,9 +37,19 @@ pub(crate) fn answering(number: u8, call: &Call, answer: Answer) -> Message
     }
 }
 
-/// The item that a mutation leaves.
-pub(crate) fn item_of(call: &Call, version: u64, value: Option<Value>) -> Result<Held, NoMemory>
-    ensures { IfOk result (λ item. item ≡ requests.item_of call.now version value) }
+// The value that an operation writes, in a copy of its own.
+fn value_written(op: &Op) -> Result<Option<Value>, NoMemory>
+    ensures { IfOk result (λ value. value ≡ requests.value_written op.now) }
+{
+    match op {
+        Op::Put(value) | Op::CondPut(_, value) => Ok(Some(value.duplicate()?)),
+        Op::Get | Op::Delete => Ok(None),
+    }
+}
+
+/// The item that a write or a removal leaves.
+pub(crate) fn item_of(call: &Call, version: u64) -> Result<Held, NoMemory>
+    ensures { IfOk result (λ item. item ≡ requests.item_of call.now version (requests.value_written call.now.op)) }
 {
     Ok(Held {
         table: call.table,
@@ -47,7 +57,7 @@ pub(crate) fn item_of(call: &Call, version: u64, value: Option<Value>) -> Result
         client: call.client,
         seq: call.seq,
         key: call.key.duplicate()?,
-        value,
+        value: value_written(&call.op)?,
     })
 }
 

@@ -1,7 +1,6 @@
 // What a master makes of a request: a choice, and what the choice changes, tells and serves.
-ghost use Rattle.std.specs.Prelude.{◌≡◌, ℕ, true, None, IfOk, IfSome, IsSome, OnOk};
+ghost use Rattle.std.specs.Prelude.{◌≡◌, ℕ, true, IfOk, IsSome, OnOk};
 ghost use Rattle.rk_types.specs.NumberMap.{get};
-ghost use Rattle.rk_types.specs.Text.{value_fault};
 ghost use Rattle.rk_world.specs.Premises.{IsLawfulCall};
 ghost use Rattle.rk_world.specs.Requests as requests;
 ghost use Rattle.rk_world.specs.Worked.{sending};
@@ -16,7 +15,7 @@ use crate::tablets::want;
 use crate::work::Worked;
 use rk_message::Request;
 use rk_tablet::outcome_of;
-use rk_types::{Answer, Call, NoMemory, Outcome, Value, hash};
+use rk_types::{Answer, Call, NoMemory, Outcome, hash};
 use rk_world::Choice;
 
 /// A master takes a client's request. A look at each tablet, a few searches, and the time to spell the entry of a
@@ -56,7 +55,7 @@ fn carry_out(
         Choice::Ignores => Ok(state.nothing()),
         Choice::Wants(number) => put_off(state, &call, number),
         Choice::Reads(outcome) => state.tell_read(call, outcome),
-        Choice::Writes(number, value) => write(state, call, number, value),
+        Choice::Writes(number) => write(state, call, number),
         Choice::Refuses(found, absent) => refuse(state, call, found, absent),
     }
 }
@@ -75,21 +74,15 @@ fn put_off(state: &mut MasterState, call: &Call, number: u32) -> Result<Worked, 
 }
 
 // A write or a removal is staged at the tablet of this number.
-fn write(
-    state: &mut MasterState,
-    call: Call,
-    number: u32,
-    value: Option<Value>,
-) -> Result<Worked, NoMemory>
+fn write(state: &mut MasterState, call: Call, number: u32) -> Result<Worked, NoMemory>
     requires state { IsState state.old }
     requires there { IsSome (get state.old.tablets.items number) }
     requires lawful { IsLawfulCall call }
-    requires value { IfSome value (λ it. value_fault it ≡ None) }
     ensures state { OnOk result (IsState state.new) }
     ensures ok { IfOk result (λ work. (asked : ℕ) → worked_of (master_of state.new) work
-        ≡ requests.chosen (master_of state.old) asked call (Choice.Writes number value)) }
+        ≡ requests.chosen (master_of state.old) asked call (Choice.Writes number)) }
 {
-    stage_write(state, number, call, value)?;
+    stage_write(state, number, call)?;
     Ok(state.nothing())
 }
 

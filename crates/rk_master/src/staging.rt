@@ -1,8 +1,7 @@
 // Staging: an entry is put at the end of the log, and the call that it ends waits for it.
-ghost use Rattle.std.specs.Prelude.{◌≡◌, ◌≤◌, ℕ, true, length, IfSome, IsSome, None, OnOk};
+ghost use Rattle.std.specs.Prelude.{◌≡◌, ◌≤◌, ℕ, true, length, IsSome, OnOk};
 ghost use Rattle.std.specs.List.{All};
 ghost use Rattle.rk_types.specs.NumberMap.{get, insert};
-ghost use Rattle.rk_types.specs.Text.{value_fault};
 ghost use Rattle.rk_entry.specs.Lawful.{IsLawfulEntry, IsLawfulHeld};
 ghost use Rattle.rk_log.specs.Log.{with_entry};
 ghost use Rattle.rk_world.specs.Premises.{IsLawfulCall};
@@ -17,7 +16,7 @@ use crate::tablets::next_version;
 use rk_entry::{Entry, entry_len};
 use rk_log::MasterLog;
 use rk_staged::StagedEntries;
-use rk_types::{Call, Held, NoMemory, SEGMENT_BYTES, Value};
+use rk_types::{Call, Held, NoMemory, SEGMENT_BYTES};
 
 /// A log with so many bytes takes no more entries.
 pub const MOST_LOG_BYTES: u64 = 1 << 31;
@@ -74,21 +73,16 @@ fn stage(state: &mut MasterState, call: Call, entry: Entry) -> Result<(), NoMemo
 
 /// Stages a write or a removal at the tablet of this number, whose counter rises. `NoMemory` also where no version is
 /// left, or the log is full. The time to spell the entry, and a few searches.
-pub(crate) fn stage_write(
-    state: &mut MasterState,
-    number: u32,
-    call: Call,
-    value: Option<Value>,
-) -> Result<(), NoMemory>
+pub(crate) fn stage_write(state: &mut MasterState, number: u32, call: Call) -> Result<(), NoMemory>
     requires state { IsState state.old }
     requires there { IsSome (get state.old.tablets.items number) }
     requires lawful { IsLawfulCall call }
-    requires value { IfSome value (λ it. value_fault it ≡ None) }
     ensures state { OnOk result (IsState state.new) }
-    ensures ok { OnOk result (master_of state.new ≡ requests.write_staged (master_of state.old) number call value) }
+    ensures ok { OnOk result (master_of state.new
+        ≡ requests.write_staged (master_of state.old) number call (requests.value_written call.op)) }
 {
     let version = next_version(state.tablets.as_mut_slice(), number)?;
-    let item = item_of(&call, version, value)?;
+    let item = item_of(&call, version)?;
     stage(state, call, Entry::Held(item))?;
     Ok(())
 }

@@ -121,7 +121,7 @@ impl MasterState {
         }
         let name = (call.table, call.key.duplicate()?);
         let seen = seen(&self.staged, &self.records, &name);
-        fresh_mutation(number, tablet, call, seen)
+        Ok(fresh_mutation(number, tablet, call, seen))
     }
 }
 

@@ -88,36 +88,31 @@ fn sees_record(seen: Option<Seen>) -> bool
 }
 
 // What a mutation does at a tablet, by what it sees.
-fn mutation(tablet: u32, op: &Op, seen: Option<Seen>) -> Result<Choice, NoMemory>
-    ensures { IfOk result (λ choice. (state : Option Item) → seen ≡ seen_of state → is_mutation_lem op.now ≡ true
-        → choice ≡ requests.operation tablet op.now (record_of state)) }
+fn mutation(tablet: u32, op: &Op, seen: Option<Seen>) -> Choice
+    ensures { (state : Option Item) → seen ≡ seen_of state → is_mutation_lem op.now ≡ true
+        → result ≡ requests.operation tablet op.now (record_of state) }
 {
     match op {
-        Op::Get => Ok(Choice::Ignores),
-        Op::Put(value) => Ok(Choice::Writes(tablet, Some(value.duplicate()?))),
-        Op::CondPut(expected, value) => {
+        Op::Get => Choice::Ignores,
+        Op::Put(_) => Choice::Writes(tablet),
+        Op::CondPut(expected, _) => {
             let found = version_seen(seen);
             if *expected != found {
-                return Ok(Choice::Refuses(found, false));
+                return Choice::Refuses(found, false);
             }
-            Ok(Choice::Writes(tablet, Some(value.duplicate()?)))
+            Choice::Writes(tablet)
         }
-        Op::Delete => Ok(removal(tablet, sees_record(seen))),
+        Op::Delete => removal(tablet, sees_record(seen)),
     }
 }
 
 /// What is done with a mutation that has not ended and is not staged.
-pub fn fresh_mutation(
-    number: u32,
-    tablet: &TabletLane,
-    call: &Call,
-    seen: Option<Seen>,
-) -> Result<Choice, NoMemory>
-    ensures { IfOk result (λ choice. (state : Option Item) → seen ≡ seen_of state → is_mutation_lem call.now.op ≡ true
-        → choice ≡ requests.fresh_choice number (tablet_of tablet.now) call.now state) }
+pub fn fresh_mutation(number: u32, tablet: &TabletLane, call: &Call, seen: Option<Seen>) -> Choice
+    ensures { (state : Option Item) → seen ≡ seen_of state → is_mutation_lem call.now.op ≡ true
+        → result ≡ requests.fresh_choice number (tablet_of tablet.now) call.now state }
 {
     if needs_state(&call.op) && !tablet.is_known(hash(call.key.bytes()), seen.is_some()) {
-        return Ok(Choice::Wants(number));
+        return Choice::Wants(number);
     }
     mutation(number, &call.op, seen)
 }
@@ -152,10 +147,10 @@ pub fn outcome_of(end: End) -> Outcome
 
 // What a removal does.
 fn removal(tablet: u32, is_there: bool) -> Choice
-    ensures { result ≡ (if is_there then Choice.Writes tablet None else Choice.Refuses 0 true) }
+    ensures { result ≡ (if is_there then Choice.Writes tablet else Choice.Refuses 0 true) }
 {
     if is_there {
-        Choice::Writes(tablet, None)
+        Choice::Writes(tablet)
     } else {
         Choice::Refuses(0, true)
     }

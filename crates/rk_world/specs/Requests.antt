@@ -60,10 +60,17 @@ version_of (Some record_there) = record_there.0
 -- what an operation does at a tablet, by the record that is there
 abbrev pub operation : ℕ → Op → Option (ℕ × List ℕ) → Choice
 operation tablet ops.Get live = Reads (read_of live)
-operation tablet (ops.Put value) live = Writes tablet (Some value)
+operation tablet (ops.Put value) live = Writes tablet
 operation tablet (ops.CondPut expected value) live =
-    if expected == version_of live then Writes tablet (Some value) else Refuses (version_of live) false
-operation tablet ops.Delete live = if is_some live then Writes tablet None else Refuses 0 true
+    if expected == version_of live then Writes tablet else Refuses (version_of live) false
+operation tablet ops.Delete live = if is_some live then Writes tablet else Refuses 0 true
+
+-- the value that an operation writes; none where it removes the record, or reads it
+abbrev pub value_written : Op → Option (List ℕ)
+value_written (ops.Put value) = Some value
+value_written (ops.CondPut expected value) = Some value
+value_written ops.Delete = None
+value_written ops.Get = None
 
 -- whether an operation needs to know what is there: all but a put do
 abbrev pub needs_state : Op → Bool
@@ -176,7 +183,7 @@ chosen master asked call (Reads outcome) = record {
   served = (record { call = call; outcome = outcome }) ∷ [];
   marked = [];
 }
-chosen master asked call (Writes number value) = changed (write_staged master number call value)
+chosen master asked call (Writes number) = changed (write_staged master number call (value_written call.op))
 chosen master asked call (Refuses found absent) = changed (refusal_staged master call found absent)
 
 -- a master takes a client's request

@@ -1,4 +1,4 @@
-use rk_types::{End, Outcome, Value};
+use rk_types::{End, Outcome};
 
 /// What is to be done with a call, at the tablet of a number.
 #[derive(Drop)]
@@ -13,8 +13,8 @@ pub enum Choice {
     Wants(u32),
     /// The read tells this.
     Reads(Outcome),
-    /// The mutation writes or removes the record at this tablet.
-    Writes(u32, Option<Value>),
+    /// The mutation writes or removes the record at this tablet, as its operation says.
+    Writes(u32),
     /// The mutation is refused: it found this version, or was the removal of a record that is not there.
     Refuses(u64, bool),
 }

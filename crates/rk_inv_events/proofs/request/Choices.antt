@@ -60,13 +60,13 @@ module _ (number : ℕ) (tablet : Tablet) (call : Call) (state : Option Held) wh
       by_op : (op : Op) → call.op ≡ op → (needs_state op && not (is_known tablet (hash_of call.key) state)) ≡ false
           → Is (operation number op (record_of state))
       by_op ops.Get is has = finds is (not-false (is_known tablet (hash_of call.key) state) has)
-      by_op (ops.Put value) is has = stages (Writes number (Some value)) (ap is_mutation is) (λ none. none)
+      by_op (ops.Put value) is has = stages (Writes number) (ap is_mutation is) (λ none. none)
       by_op (ops.CondPut expected value) is has =
-          cond_both (expected == version_of (record_of state)) (Writes number (Some value)) (Refuses (version_of (record_of state)) false) Is
-          (λ same. stages (Writes number (Some value)) (ap is_mutation is) (λ none. none))
+          cond_both (expected == version_of (record_of state)) (Writes number) (Refuses (version_of (record_of state)) false) Is
+          (λ same. stages (Writes number) (ap is_mutation is) (λ none. none))
           (λ other. stages (Refuses (version_of (record_of state)) false) (ap is_mutation is) (λ none. none))
-      by_op ops.Delete is has = cond_both (is_some (record_of state)) (Writes number None) (Refuses 0 true) Is
-          (λ there. stages (Writes number None) (ap is_mutation is) (λ none. none))
+      by_op ops.Delete is has = cond_both (is_some (record_of state)) (Writes number) (Refuses 0 true) Is
+          (λ there. stages (Writes number) (ap is_mutation is) (λ none. none))
           (λ gone. stages (Refuses 0 true) (ap is_mutation is) (λ none. none))
 
   -- it is a choice of fresh calls

@@ -2,7 +2,7 @@
 use Rattle.std.proofs.Common.{arith, ◌≡◌, ℕ, ◌<◌, Bool, true, List, Option, Some, None}
 use Rattle.rk_inv_base.proofs.Words.{cond_both, ⊤, hash_of, Call, Op, Held, Allowed, change_of, last_version, record_of, map_entry_of}
 use Rattle.rk_inv_base.proofs.Words.{end_of_item, outcome_of, fresh_choice, is_known, item_of, needs_state, operation, version_of, Tablet}
-use Rattle.rk_inv_base.proofs.Words.{Choice, Writes, Refuses, refused_as}
+use Rattle.rk_inv_base.proofs.Words.{Choice, Writes, Refuses, refused_as, value_written}
 use Rattle.rk_model.specs.History.{record_of as map_record_of}
 use Rattle.rk_model.specs.Machine.{Entry as MapEntry}
 use Rattle.rk_inv_events.proofs.Words.{not-false}
@@ -20,7 +20,7 @@ pub record MayFail (call : Call) (entry : MapEntry) (found : ℕ) (absent : Bool
 
 -- what is staged by a choice is what the call may end with
 abbrev pub FitsCall : ℕ → ℕ → Call → MapEntry → Choice → Type 0
-FitsCall number version call entry (Writes other value) = MayWrite number version call entry other value
+FitsCall number version call entry (Writes other) = MayWrite number version call entry other (value_written call.op)
 FitsCall number version call entry (Refuses found absent) = MayFail call entry found absent
 FitsCall number version call entry _ = ⊤
 

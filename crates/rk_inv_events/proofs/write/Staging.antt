@@ -5,7 +5,7 @@ use Rattle.rk_model.specs.History.{record_of as map_record_of}
 use Rattle.rk_inv_base.proofs.Words.{Allowed, Call, Choice, HasSegmentLeft, Held, IsMaster, IsSound, IsWellFormed, Master, Outcome, Refuses}
 use Rattle.rk_inv_base.proofs.Words.{Request, Tablet, View, WasAsked, World, Writes, call_of, end_of_item, found, get, hash_of, is_known}
 use Rattle.rk_inv_base.proofs.Words.{is_mutation, items_of, lives, log_in, master_at, newest, option_or, outcome_of, record_of, refused_as}
-use Rattle.rk_inv_base.proofs.Words.{staged, state_of, view}
+use Rattle.rk_inv_base.proofs.Words.{staged, state_of, value_written, view}
 use Rattle.rk_inv_base.proofs.Headlines.{sound_refused, sound_staged}
 use Rattle.rk_inv_events.proofs.Words.{MayEndIn, next_version, refusal_staged_in, write_staged_in}
 use Rattle.rk_inv_events.proofs.request.Choices.{IsFresh, fresh, staging_mutates}
@@ -70,17 +70,19 @@ module _ (w : World) (number master client : ℕ) (request : Request) (sound : I
   -- ---- what is staged
 
   module _ (room : HasSegmentLeft (log_in w master)) where
-    pub sound_written : (tablet : ℕ) (value : Option (List ℕ)) → choice_in w master client request ≡ Writes tablet value → IsSound (write_staged_in w master tablet call value)
-    sound_written tablet value chose =
-        let its = fresh own call (Writes tablet value) tt chose in
-        let mutates = staging_mutates its.number its.tablet call (state_of own call) (Writes tablet value) its.choice_is (λ none. none) in
-        let its_row = at (Writes tablet value) its mutates in
-        let fit = fits (Writes tablet value) its mutates in
+    pub sound_written : (tablet : ℕ) → choice_in w master client request ≡ Writes tablet
+        → IsSound (write_staged_in w master tablet call (value_written call.op))
+    sound_written tablet chose =
+        let value : Option (List ℕ) = value_written call.op in
+        let its = fresh own call (Writes tablet) tt chose in
+        let mutates = staging_mutates its.number its.tablet call (state_of own call) (Writes tablet) its.choice_is (λ none. none) in
+        let its_row = at (Writes tablet) its mutates in
+        let fit = fits (Writes tablet) its mutates in
         subst (λ (n : ℕ). IsSound (write_staged_in w master n call value)) (its_row.number_is ∙ sym fit.number_is)
         (sound_staged w master call value sound
         (record {
           served = its_row.served;
-          ends = ends (Writes tablet value) its mutates (outcome_of (end_of_item (next_version v master its_row.served.row) value)) fit.allowed;
+          ends = ends (Writes tablet) its mutates (outcome_of (end_of_item (next_version v master its_row.served.row) value)) fit.allowed;
           room = room;
           leaves = fit.leaves;
         }))

@@ -1,7 +1,7 @@
 -- A sound and well formed lane stays sound when a master takes a Request that stands on the wire: where it stages nothing, and where it stages its
 -- call. With room it does when any Request is delivered.
-use Rattle.std.proofs.Common.{Bool, List, Option, Some, refl, subst, sym, ℕ, ◌≡◌}
-use Rattle.rk_world.specs.Requests.{refusal_staged, write_staged}
+use Rattle.std.proofs.Common.{Bool, Option, Some, refl, subst, sym, ℕ, ◌≡◌}
+use Rattle.rk_world.specs.Requests.{refusal_staged, value_written, write_staged}
 use Rattle.rk_world.specs.declared.event.Event.TheVariants as events
 use Rattle.rk_inv_base.proofs.Words.{Called, Choice, End, HasRoom, HasSegmentLeft, Ignores, IsMaster, IsSound, IsWellFormed, Message}
 use Rattle.rk_inv_base.proofs.Words.{Outcome, Reads, Redirects, Refuses, Repeats, Request, RequestFits, Wants, World, Writes, call_of}
@@ -49,12 +49,13 @@ module _ (w : World) (number master client : ℕ) (request : Request) (sound : I
   -- ---- its call is staged
 
   module _ (room : HasSegmentLeft (log_in w master)) where
-    pub sound_write : (tablet : ℕ) (value : Option (List ℕ)) → choice_in w master client request ≡ Writes tablet value
+    pub sound_write : (tablet : ℕ) → choice_in w master client request ≡ Writes tablet
         → IsSound (to_master w master (request_message client master request)).world
-    sound_write tablet value chose =
-        sound_chosen w master client request (Writes tablet value) sound chose (λ alive.
-        sound_changed w master request.seen (write_staged (master_at w master) tablet (call_of client request) value)
-        (sound_written w number master client request sound formed alive there room tablet value chose))
+    sound_write tablet chose =
+        let call = call_of client request in
+        sound_chosen w master client request (Writes tablet) sound chose (λ alive.
+        sound_changed w master request.seen (write_staged (master_at w master) tablet call (value_written call.op))
+        (sound_written w number master client request sound formed alive there room tablet chose))
 
     pub sound_refuse : (found : ℕ) (absent : Bool) → choice_in w master client request ≡ Refuses found absent
         → IsSound (to_master w master (request_message client master request)).world
@@ -74,6 +75,6 @@ module _ (w : World) (number master client : ℕ) (request : Request) (sound : I
       answers = sound_answered called
 
       by : (choice : Choice) → choice_in w master client request ≡ choice → IsSound (happened w (events.Deliver number) called).world
-      by (Writes tablet value) is = delivers (sound_write (segments_left w formed room master) tablet value is)
+      by (Writes tablet) is = delivers (sound_write (segments_left w formed room master) tablet is)
       by (Refuses found absent) is = delivers (sound_refuse (segments_left w formed room master) found absent is)
       by _ is = answers (rw is tt)

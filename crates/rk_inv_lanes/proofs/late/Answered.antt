@@ -40,7 +40,7 @@ said (Repeats end) asked call = Some (Answer.Done (outcome_of end))
 said Ignores asked call = None
 said (Wants number) asked call = Some (Answer.NotYet call.key)
 said (Reads outcome) asked call = Some (Answer.Done outcome)
-said (Writes number value) asked call = None
+said (Writes number) asked call = None
 said (Refuses at absent) asked call = None
 
 module _ (w : World) (new master seen asked : ℕ) (call : Call) (message : Message) (free : get w.wire.messages new ≡ None) where

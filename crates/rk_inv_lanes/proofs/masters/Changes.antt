@@ -8,7 +8,7 @@ use Rattle.rk_inv_base.proofs.Words.{closed, closing, closing_entry, freezing, f
 use Rattle.rk_inv_base.proofs.Words.{is_sealed_stored, is_settled, item_of, joined, joined_entry, owning, prepare_taken, prepared}
 use Rattle.rk_inv_base.proofs.Words.{preparing, ready, ready_again, refusal_of, releasing, sending, tablet_at, tablet_closed, transfer}
 use Rattle.rk_inv_base.proofs.Words.{with_appended, with_handover, with_move, with_others_given_up, with_side_segment, with_staged}
-use Rattle.rk_inv_base.proofs.Words.{with_tablet, without_items, ⊤}
+use Rattle.rk_inv_base.proofs.Words.{value_written, with_tablet, without_items, ⊤}
 use Rattle.rk_world.specs.Master.{with_call, with_item}
 use Rattle.rk_inv_wellformed.proofs.maps.Lists.{fold_keeps_all, either_way}
 
@@ -57,7 +57,8 @@ of_lasting lasting = grind arith
 
 -- the entry that a choice leaves may be appended
 abbrev pub MayLeave : (Entry → Type 0) → Master → Call → Choice → Type 0
-MayLeave May master call (Writes number value) = May (Entry.Held (item_of call (tablet_at master number).handover.counter value))
+MayLeave May master call (Writes number) =
+    May (Entry.Held (item_of call (tablet_at master number).handover.counter (value_written call.op)))
 MayLeave May master call (Refuses found absent) = May (refusal_of call found absent)
 MayLeave May master call _ = ⊤
 
@@ -77,8 +78,8 @@ module _ {P : Master → Type 0} {Fits : Held → Type 0} {May : Entry → Type 
   pub chosen_has : (master : Master) (asked : ℕ) (call : Call) (choice : Choice) → MayLeave May master call choice → P (with_call master call)
       → P master → P (chosen master asked call choice).master
   chosen_has master asked call (Wants number) may called has = lasts.tablet master number _ (lasts.few master number has) has
-  chosen_has master asked call (Writes number value) may called has =
-      let entry = Entry.Held (item_of call (tablet_at master number).handover.counter value) in
+  chosen_has master asked call (Writes number) may called has =
+      let entry = Entry.Held (item_of call (tablet_at master number).handover.counter (value_written call.op)) in
       lasts.tablet (with_staged master call entry) number _ (lasts.few master number has)
       (lasts.appended (with_call master call) entry may called)
   chosen_has master asked call (Refuses found absent) may called has =

@@ -28,7 +28,7 @@ use Rattle.rk_world.specs.Premises.{IsLawfulCall}
 use Rattle.rk_inv_wellformed.proofs.maps.Rising.{rising_within}
 use Rattle.rk_inv_wellformed.proofs.masters.Handovers.{one_stood}
 use Rattle.rk_inv_wellformed.proofs.masters.Rebuilding.{begins, few_ends, formed_gathered, merge_formed}
-use Rattle.rk_inv_wellformed.proofs.masters.Requests.{IsFormedChoice, choice_formed}
+use Rattle.rk_inv_wellformed.proofs.masters.Requests.{written_lawful}
 use Rattle.rk_inv_wellformed.proofs.masters.Sealing.{first_holds}
 use Rattle.rk_inv_wellformed.proofs.masters.Work.{AreLimits}
 use Rattle.rk_inv_lanes.proofs.masters.Changes.{Lasts, MayLeave, all_going_on_has}
@@ -182,9 +182,8 @@ seals_few number master fit below =
 -- ---- messages
 
 -- a call that is chosen for so leaves an entry that fits, or none
-leaves_fit : (limits : Limits) (master : Master) {call : Call} (choice : Choice) → IsLawfulCall call → IsFormedChoice limits master choice
-    → MayLeave FitsSegment master call choice
-leaves_fit limits master {call} choice lawful formed = grind (arith, held_fits, item_of, tablet_at, found, refused_fits)
+leaves_fit : (master : Master) {call : Call} (choice : Choice) → IsLawfulCall call → MayLeave FitsSegment master call choice
+leaves_fit master {call} choice lawful = grind (arith, held_fits, item_of, tablet_at, found, refused_fits, written_lawful)
 
 module _ (limits : Limits) (number : ℕ) (master : Master) (are : AreLimits limits) (formed : IsFormedMaster limits number master) (fit : IsFit master) (below : log_bytes master < MOST_BYTES) where
   -- what a rebuild merges fits: its copies, and the entry that closes it
@@ -205,8 +204,7 @@ module _ (limits : Limits) (number : ℕ) (master : Master) (are : AreLimits lim
   makes : (sender : Node) (body : Body) → IsFormedBody limits sender body → log_bytes (told_master master sender body).master < MOST_BYTES
       → Makes IsFit FitsSegment AreFew master sender body
   makes (Node.Client client) (Body.Request request) says few =
-      leaves_fit limits master (choice_of master (call_of client request)) says.call
-      (choice_formed limits number master (call_of client request) formed says.call)
+      leaves_fit master (choice_of master (call_of client request)) says.call
   -- the ends that come with a grant are of different clients, so they are few
   makes Node.Coordinator (Body.Grant grant) says few = λ handover. carried_fits
       (record { range = handover.range; term = handover.term; floor = grant.floor; ends = grant.ends })

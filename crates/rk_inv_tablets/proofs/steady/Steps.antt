@@ -216,7 +216,7 @@ module _ (count : ℕ) where
 module _ (count : ℕ) (master : Master) (seals : Seals count master) where
   chosen_seals : (asked : ℕ) (call : Call) (choice : Choice) → Seals count (chosen master asked call choice).master
   chosen_seals asked call (Wants number) = search (seals_with_tablet, tablet_at, hash_of, sealed_at, call.key)
-  chosen_seals asked call (Writes number value) = search (seals_with_tablet, with_staged, item_of, tablet_at, counted_up, sealed_at)
+  chosen_seals asked call (Writes number) = search (seals_with_tablet, with_staged, item_of, tablet_at, counted_up, sealed_at)
   chosen_seals asked call _ = seals
 
   pub request_seals : (client : ℕ) (request : Request) → Seals count (request_taken master client request).master

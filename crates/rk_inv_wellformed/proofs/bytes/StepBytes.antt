@@ -17,7 +17,7 @@ use Rattle.rk_inv_wellformed.proofs.bytes.RebuildBytes.{copy_bytes, rebuild_byte
 use Rattle.rk_inv_wellformed.proofs.bytes.Sizes.{below_fits, entries_few}
 use Rattle.rk_inv_wellformed.proofs.bytes.TurnBytes.{stored_thrice}
 use Rattle.rk_inv_wellformed.proofs.maps.{either_way}
-use Rattle.rk_inv_wellformed.proofs.masters.Requests.{IsFormedChoice, choice_formed}
+use Rattle.rk_inv_wellformed.proofs.masters.Requests.{written_lawful}
 use Rattle.rk_inv_wellformed.proofs.masters.Tablets.{tablet_with_same}
 use Rattle.rk_inv_wellformed.proofs.masters.Work.{AreLimits}
 use Rattle.rk_inv_wellformed.proofs.masters.Handovers.{formed_ends_few}
@@ -46,14 +46,14 @@ module _ (master : Master) (below : log_bytes master < MOST_BYTES) where
 
   -- ---- a request
 
-  chosen_fits : (limits : Limits) (asked : ℕ) {call : Call} (choice : Choice) → IsLawfulCall call → IsFormedChoice limits master choice → BytesFit (chosen master asked call choice).master
-  chosen_fits limits asked {call} (Wants id) lawful formed =
+  chosen_fits : (asked : ℕ) {call : Call} (choice : Choice) → IsLawfulCall call → BytesFit (chosen master asked call choice).master
+  chosen_fits asked {call} (Wants id) lawful =
       omega (arith, below, same_unsealed master id (with_wanted (tablet_at master id) (hash_of call.key)) (unsealed_at_most master id))
-  chosen_fits limits asked {call} (Writes id value) lawful formed =
-      grind (arith, bytes_with_tablet, bytes_appended, held_fits, unsealed_at_most)
-  chosen_fits limits asked {call} (Refuses found absent) lawful formed =
+  chosen_fits asked {call} (Writes id) lawful =
+      grind (arith, bytes_with_tablet, bytes_appended, held_fits, unsealed_at_most, written_lawful)
+  chosen_fits asked {call} (Refuses found absent) lawful =
       grind (arith, bytes_appended, with_call, refusal_of, refused_fits, call.table, call.client, call.seq, call.key, lawful.key)
-  chosen_fits limits asked _ lawful formed = kept
+  chosen_fits asked _ lawful = kept
 
   -- ---- handovers
 
@@ -114,11 +114,9 @@ module _ (master : Master) (below : log_bytes master < MOST_BYTES) where
 
   -- ---- what a master makes of a message
 
-  client_fits : {limits : Limits} {number : ℕ} (client : ℕ) (body : Body) → IsFormedMaster limits number master → IsFormedBody limits (Node.Client client) body → BytesFit (client_message master client body).master
-  client_fits {limits} {number} client (Body.Request request) formed says =
-      chosen_fits limits request.tablet (choice_of master (call_of client request)) says.call
-      (choice_formed limits number master (call_of client request) formed says.call)
-  client_fits client _ formed says = kept
+  client_fits : (limits : Limits) (client : ℕ) (body : Body) → IsFormedBody limits (Node.Client client) body → BytesFit (client_message master client body).master
+  client_fits limits client (Body.Request request) says = chosen_fits request.tablet (choice_of master (call_of client request)) says.call
+  client_fits limits client _ says = kept
 
   order_fits : {limits : Limits} {number : ℕ} (body : Body) → AreLimits limits → IsFormedMaster limits number master
       → IsFormedBody limits Node.Coordinator body → BytesFit (order master body).master
@@ -155,7 +153,7 @@ module _ (master : Master) (below : log_bytes master < MOST_BYTES) where
       → IsFormedBody limits sender body
       → log_bytes (told_master master sender body).master ≤ 3 * log_bytes master + LONGEST_LEFT + brought_by master body
   told_bytes limits number (Node.Client client) body are formed says =
-      risen body (client_message master client body).master (client_fits client body formed says)
+      risen body (client_message master client body).master (client_fits limits client body says)
   told_bytes limits number Node.Coordinator body are formed says =
       risen body (order master body).master (order_fits body are formed says)
   told_bytes limits number (Node.Master sender) body are formed says = peer_fits sender body formed.tablets_order

@@ -10,7 +10,7 @@ use Rattle.rk_inv_wellformed.proofs.Words.{with_staged, Tablet, counters_of, Cho
 use Rattle.rk_inv_wellformed.proofs.Words.{is_mutation, IsLawfulOutcome, IsLawfulAnswer, refusal_of, Answer, IsFormedMessage, is_at, look}
 use Rattle.rk_inv_wellformed.proofs.Words.{look_of, IsLawfulOp, IsFormedRequest, is_staged, serves_key, serving, staged, answering}
 use Rattle.rk_inv_wellformed.proofs.Words.{choice_at, fresh_choice, mutation_choice, needs_state, operation, read_of, state_of}
-use Rattle.rk_inv_wellformed.proofs.Words.{version_of, write_staged, Repeats, Ignores, Reads}
+use Rattle.rk_inv_wellformed.proofs.Words.{version_of, write_staged, value_written, Repeats, Ignores, Reads}
 use Rattle.rk_done.specs.declared.completion.Look.{Look}
 use Rattle.rk_overlay.specs.Live.{record_of}
 use Rattle.rk_overlay.specs.Newest.{newest}
@@ -61,14 +61,13 @@ record_formed limits state formed = grind (arith, by_found, value_fault)
 -- ---- choices
 
 -- a choice whose tablet is there, and whose answer or entry keeps to the limits
-abbrev pub IsFormedChoice : Limits → Master → Choice → Type 0
+abbrev IsFormedChoice : Limits → Master → Choice → Type 0
 IsFormedChoice limits master Redirects = ⊤
 IsFormedChoice limits master (Repeats end) = IsLawfulOutcome end
 IsFormedChoice limits master Ignores = ⊤
 IsFormedChoice limits master (Wants number) = IsFormedTablet limits number (tablet_at master number)
 IsFormedChoice limits master (Reads outcome) = IsLawfulAnswer (Answer.Done outcome)
-IsFormedChoice limits master (Writes number value) =
-    IsFormedTablet limits number (tablet_at master number) × IfSome value (λ value. value_fault value ≡ None)
+IsFormedChoice limits master (Writes number) = IsFormedTablet limits number (tablet_at master number)
 IsFormedChoice limits master (Refuses found absent) =
     IsNumber w64 0 found × (found ≤ limits.top) × (IsTrue absent → found ≡ 0)
 
@@ -78,9 +77,13 @@ read_formed limits None formed = tt
 read_formed limits (Some found) formed = (from_zero64 formed.fits, formed.value)
 
 operation_formed : {limits : Limits} (master : Master) {number : ℕ} (op : Op) (live : Option (ℕ × List ℕ))
-    → IsFormedTablet limits number (tablet_at master number) → IsLawfulOp op → IsFormedLive limits live
+    → IsFormedTablet limits number (tablet_at master number) → IsFormedLive limits live
     → IsFormedChoice limits master (operation number op live)
-operation_formed {limits} master op live there lawful formed = grind (arith, read_formed, cond_both, version_of, from_zero64)
+operation_formed {limits} master op live there formed = grind (arith, read_formed, cond_both, version_of, from_zero64)
+
+-- what a lawful operation writes is a value
+pub written_lawful : (op : Op) → IsLawfulOp op → IfSome (value_written op) (λ value. value_fault value ≡ None)
+written_lawful op lawful = grind arith
 
 -- the end that is known of a call
 look_formed : (limits : Limits) (completions : Completions) (client seq : ℕ) (end : End) → All (IsFormedEnd limits) (ends_of completions)
@@ -97,7 +100,7 @@ look_formed limits completions client seq end each is =
     (λ same e. let is : last.end ≡ end = cc e in subst IsLawfulOutcome is known.lawful.outcome) (λ old e. absurd (cc e))))
     is
 
-module _ (limits : Limits) (number : ℕ) (master : Master) (call : Call) (formed : IsFormedMaster limits number master) (lawful : IsLawfulCall call) where
+module _ (limits : Limits) (number : ℕ) (master : Master) (call : Call) (formed : IsFormedMaster limits number master) where
   -- the item that a call finds of its key
   state_formed : IsFormedState limits (state_of master call)
   state_formed =
@@ -112,7 +115,7 @@ module _ (limits : Limits) (number : ℕ) (master : Master) (call : Call) (forme
     fresh_formed : IsFormedChoice limits master (fresh_choice id tablet call (state_of master call))
     fresh_formed = either_way (IsFormedChoice limits master)
         (needs_state call.op && not (is_known tablet (hash_of call.key) (state_of master call))) there
-        (operation_formed master call.op (record_of (state_of master call)) there lawful.op
+        (operation_formed master call.op (record_of (state_of master call)) there
         (record_formed limits (state_of master call) state_formed))
 
     mutation_formed : All (IsFormedEnd limits) (ends_of tablet.completions) → (known : Look) → look tablet.completions call.client call.seq ≡ known
@@ -121,10 +124,10 @@ module _ (limits : Limits) (number : ℕ) (master : Master) (call : Call) (forme
     mutation_formed ended (Look.Same end) is = look_formed limits tablet.completions call.client call.seq end ended is
     mutation_formed ended (Look.Old seq) is = tt
 
--- what a master does with a lawful call
-pub choice_formed : (limits : Limits) (number : ℕ) (master : Master) (call : Call) → IsFormedMaster limits number master → IsLawfulCall call
+-- what a master does with a call
+choice_formed : (limits : Limits) (number : ℕ) (master : Master) (call : Call) → IsFormedMaster limits number master
     → IsFormedChoice limits master (choice_of master call)
-choice_formed limits number master call formed lawful = go (serving master call.table call.key) refl
+choice_formed limits number master call formed = go (serving master call.table call.key) refl
   where
     go : (there : Option (ℕ × Tablet)) → serving master call.table call.key ≡ there → IsFormedChoice limits master (choice_at master call there)
     go None is = tt
@@ -132,9 +135,9 @@ choice_formed limits number master call formed lawful = go (serving master call.
         let got : get master.tablets id ≡ Some tablet = find_is_got (λ entry. serves_key call.table call.key entry.1) master.tablets (id, tablet) formed.tablets_order is in
         let here : IsFormedTablet limits id (tablet_at master id) = formed_found id tablet formed got in
         either_way (IsFormedChoice limits master) (is_mutation call.op)
-        (mutation_formed limits number master call formed lawful id tablet here (formed.tablets id tablet got).ended
+        (mutation_formed limits number master call formed id tablet here (formed.tablets id tablet got).ended
         (look tablet.completions call.client call.seq) refl)
-        (fresh_formed limits number master call formed lawful id tablet here)
+        (fresh_formed limits number master call formed id tablet here)
 
 -- ---- what a choice changes
 
@@ -152,7 +155,7 @@ counter_with_tablet limits master id tablet counters =
 
 -- where a choice writes, the counter of its tablet is not the greatest number
 abbrev HasNext : Limits → Master → Choice → Type 0
-HasNext limits master (Writes id value) = (tablet_at master id).handover.counter < limits.top
+HasNext limits master (Writes id) = (tablet_at master id).handover.counter < limits.top
 HasNext limits master choice = ⊤
 
 has_next : (small limits : Limits) (master : Master) (asked : ℕ) (call : Call) (choice : Choice) → IsFormedChoice small master choice
@@ -182,15 +185,18 @@ module _ (limits : Limits) (number : ℕ) (master : Master) (call : Call) (are :
       (formed_with_tablet formed (formed_with_wanted choice (hash_fits call.key)) (omega arith))
       (answers (Answer.NotYet call.key) lawful.key)
   chosen_formed asked (Reads outcome) fits choice next = formed_told formed (answers (Answer.Done outcome) choice) refl (omega arith)
-  chosen_formed asked (Writes id value) fits choice next =
-      let counted = choice.0.counter in
+  chosen_formed asked (Writes id) fits choice next =
+      let counted = choice.counter in
       formed_changed (formed_with_tablet
-      (staged_formed (Entry.Held (item_of call (tablet_at master id).handover.counter value)) (record {
-        lawful = assumption (number_fits 1 (tablet_at master id).handover.counter are counted.first counted.last);
+      (staged_formed (Entry.Held (item_of call (tablet_at master id).handover.counter (value_written call.op))) (record {
+        lawful = assumption (
+          number_fits 1 (tablet_at master id).handover.counter are counted.first counted.last,
+          written_lawful call.op lawful.op,
+        );
         version = counted.last;
         client = client;
       }))
-      (formed_counted_up choice.0 next) (omega arith))
+      (formed_counted_up choice next) (omega arith))
   chosen_formed asked (Refuses found absent) fits choice next = formed_changed
       (staged_formed (refusal_of call found absent) (record { lawful = assumption choice; found = choice.1; client = client }))
 
@@ -204,5 +210,5 @@ formed_request {small} {limits} {number} {master} {client} {request} more are th
     let call = call_of client request in
     let wide = more_master small limits more formed in
     chosen_formed limits number master call are there wide asks.call (more.clients client asks.client_is) request.tablet (choice_of master call) fits
-    (choice_formed limits number master call wide asks.call)
-    (has_next small limits master request.tablet call (choice_of master call) (choice_formed small number master call formed asks.call) rises)
+    (choice_formed limits number master call wide)
+    (has_next small limits master request.tablet call (choice_of master call) (choice_formed small number master call formed) rises)

@@ -31,7 +31,7 @@ use Rattle.rk_world.specs.MasterStep.{backup_message, client_message, order, pee
 use Rattle.rk_world.specs.Pulls.{got_taken, hashes_resolved}
 use Rattle.rk_world.specs.Rebuilds.{begun_from, beginning, copy_taken, merging, rebuild_begun, rebuild_goes_on, rebuild_taken}
 use Rattle.rk_world.specs.Rebuilds.{rebuilding_on, segment_gathered, with_begun, without_foreign}
-use Rattle.rk_world.specs.Requests.{chosen, counted_up, item_of}
+use Rattle.rk_world.specs.Requests.{chosen, counted_up, item_of, value_written}
 use Rattle.rk_world.specs.RoleTests.{is_gathering}
 use Rattle.rk_world.specs.Waiting.{tablet_frozen}
 use Rattle.rk_world.specs.declared.choice.Choice.{Choice}
@@ -188,8 +188,8 @@ stored_patient master backup stored None patient =
 module _ (master : Master) (patient : ArePatient master) where
   chosen_patient : (asked : ℕ) (call : Call) (choice : Choice) → ArePatient (chosen master asked call choice).master
   chosen_patient asked call (Wants number) = put_patient master number _ patient (patient.each number)
-  chosen_patient asked call (Writes number value) =
-      let entry : Entry = Entry.Held (item_of call (tablet_at master number).handover.counter value) in
+  chosen_patient asked call (Writes number) =
+      let entry : Entry = Entry.Held (item_of call (tablet_at master number).handover.counter (value_written call.op)) in
       let appended : ArePatient (with_appended master entry) = appended_patient master entry patient in
       let put = put_patient (with_appended master entry) number (counted_up (tablet_at master number)) appended (appended.each number) in
       record { order = put.order; each = put.each }

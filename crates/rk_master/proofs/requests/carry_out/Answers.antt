@@ -13,7 +13,7 @@ put_off-requires-clause-there c =
 pub write-requires-clause-there : goal.write-requires-clause-there
 write-requires-clause-there c =
     let rows : List Row = c.args.state.now.tablets.items in
-    there_too rows c.in-Writes.number (subst (IsFit (tablets_of rows)) c.in-Writes.is c.requires.fit).0
+    there_too rows c.in-Writes.number (subst (IsFit (tablets_of rows)) c.in-Writes.is c.requires.fit)
 
 pub returns-in-Reads-clause-ok : goal.returns-in-Reads-clause-ok
 returns-in-Reads-clause-ok c =
@@ -33,7 +33,7 @@ returns-in-Writes-clause-ok c =
     let before = master_of c.args.state.now in
     let after = master_of c.write.new.state in
     subst (λ (choice : Choice). IfOk c.write.result (λ work. worked_of after work ≡ chosen before c.args.asked c.args.call choice)) (sym c.in-Writes.is)
-    (IfOk-weaker c.write.result _ (λ work. worked_of after work ≡ chosen before c.args.asked c.args.call (Writes c.in-Writes.number c.in-Writes.value)) (λ work is. is c.args.asked) c.write.ensures.ok)
+    (IfOk-weaker c.write.result _ (λ work. worked_of after work ≡ chosen before c.args.asked c.args.call (Writes c.in-Writes.number)) (λ work is. is c.args.asked) c.write.ensures.ok)
 
 pub returns-in-Refuses-clause-ok : goal.returns-in-Refuses-clause-ok
 returns-in-Refuses-clause-ok c =

@@ -7,4 +7,4 @@ pub carry_out-requires-clause-fit : goal.carry_out-requires-clause-fit
 carry_out-requires-clause-fit c =
     let master = master_of c.args.state.now in
     subst (IsFit master.tablets) (sym (c.in_ok-choice.ensures ∙ ap (λ (call : Call). choice_of master call) c.call_of-call.ensures))
-    (choice_fits master (call_of c.args.client c.args.request) c.requires.lawful)
+    (choice_fits master (call_of c.args.client c.args.request))
