@@ -1,6 +1,7 @@
-ghost use Rattle.std.specs.Prelude.{◌≡◌, ◌+◌, ◌↔◌, ℕ, None, IfOk, OnOk, OnErr};
+ghost use Rattle.std.specs.Prelude.{◌≡◌, ◌+◌, ◌<◌, ◌↔◌, ℕ, None, IfOk, IfSome, OnOk, OnErr};
 ghost use Rattle.std.specs.Option.{option_copied};
 ghost use Rattle.rk_types.specs.declared.call.Call.{Call as Asked};
+ghost use Rattle.rk_types.specs.declared.hashing.TheConstants.{LANES};
 ghost use Rattle.rk_message.specs.declared.message.Body.TheVariants as bodies;
 ghost use Rattle.rk_message.specs.declared.calls.Reply.{Reply as Answered};
 ghost use Rattle.rk_world.specs.Client.{busy, done, lookup_of as lookup_of_lem, new_session, receipt_of as receipt_of_lem};
@@ -29,7 +30,7 @@ pub struct Session {
     seen: u64,
     requests: u8,
     cached: CachedRanges,
-    request: Option<Message>,
+    sent_in: Option<u8>,
 }
 
 // No derive, so that to drop a session is a call in proofs, and no walk through all that it holds.
@@ -43,7 +44,7 @@ impl Drop for Session {
             seen: _,
             requests: _,
             cached: _,
-            request: _,
+            sent_in: _,
         } = self;
     }
 }
@@ -73,7 +74,7 @@ impl Session {
             seen: 0,
             requests: 0,
             cached: CachedRanges::new(alloc),
-            request: None,
+            sent_in: None,
         }
     }
 
@@ -125,8 +126,7 @@ impl Session {
             return Ok(Some(lookup_of(self.client, call)));
         };
         let request = request_of(self.client, self.seen, call, tablet, master)?;
-        // The call stays outstanding, and the request is kept since it may be sent once more. All else is moved or lent.
-        self.request = Some(request.duplicate()?);
+        self.sent_in = Some(lane_of(hash(call.key.bytes())));
         self.requests += 1;
         Ok(Some(request))
     }
@@ -164,11 +164,12 @@ impl Session {
         self.outstanding.as_ref()
     }
 
-    /// The request that was sent last, if there was one.
-    pub fn last_request(&self) -> Option<&Message>
-        ensures { option_copied result ≡ self.now.request }
+    /// The lane of the request that was sent last, if there was one.
+    pub fn sent_in(&self) -> Option<u8>
+        ensures lane { result ≡ self.now.sent_in }
+        ensures there { IfSome result (λ lane. lane < LANES) }
     {
-        self.request.as_ref()
+        self.sent_in
     }
 
     /// The receipts of the calls that were answered, oldest first.

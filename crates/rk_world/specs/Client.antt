@@ -26,7 +26,7 @@ MOST_REQUESTS = 3
 
 -- a client's session: its receipts, oldest first; the seq of its last call; its outstanding call; the highest stamp that it
 -- has seen; how many requests of that call it sent since it last looked up or was told where; the ranges that it cached, by lane; and
--- its last request
+-- the lane in which it sent its last request
 pub record Session : Type 0 where
   pub client : ℕ
   pub receipts : List Receipt
@@ -35,7 +35,7 @@ pub record Session : Type 0 where
   pub seen : ℕ
   pub requests : ℕ
   pub ranges : List (List Located)
-  pub request : Option Message
+  pub sent_in : Option ℕ
 
 -- a session that asked nothing
 abbrev pub new_session : ℕ → Session
@@ -47,7 +47,7 @@ new_session client = record {
   seen = 0;
   requests = 0;
   ranges = replicate LANES [];
-  request = None;
+  sent_in = None;
 }
 
 -- the next call of a client
@@ -134,7 +134,7 @@ abbrev pub requesting : Session → Call → ℕ → ℕ → ClientTurn
 requesting session call tablet master = record {
   session = record session {
     requests = session.requests + 1;
-    request = Some (request_of session call tablet master);
+    sent_in = Some (call_lane call);
   };
   message = request_of session call tablet master;
 }

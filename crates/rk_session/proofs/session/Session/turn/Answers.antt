@@ -1,5 +1,5 @@
-use Rattle.std.proofs.Common.{◌+◌, Some, refl, sym, ap, ◌∙◌}
-use Rattle.rk_message.specs.declared.message.Message.{Message}
+use Rattle.std.proofs.Common.{ℕ, ◌+◌, Some, refl, sym, ap, ◌∙◌}
+use Rattle.rk_types.specs.Hashing.{hash_of, lane_of}
 use Rattle.rk_session.specs.Fields.{session_of}
 use Rattle.rk_session.specs.Turns.{message_of, session_after}
 use Rattle.rk_session.proofs.Turning.{turn_looks, turn_requests}
@@ -23,6 +23,6 @@ returns-clause-ok c =
     let before = session_of c.self.inside in
     let there = c.in-Some-address_of in
     let sends = turn_requests before c.args.self.now c.in-Some.call c.find.result c.address_of.result there.tablet there.master c.self.view_is c.in-Some.is c.find.ensures c.address_of.ensures there.is in
-    let kept = c.in_ok-duplicate.ensures ∙ c.in_ok-request.ensures before refl refl in
-    ap (λ (m : Message). record before { requests = before.requests + 1; request = Some m }) kept
+    let lane = c.lane_of.ensures.lane ∙ ap lane_of (c.hash.ensures ∙ ap hash_of c.bytes.ensures.value) in
+    ap (λ (lane : ℕ). record before { requests = before.requests + 1; sent_in = Some lane }) lane
     ∙ ap (session_after c.args.self.now) (sym sends)
