@@ -6,6 +6,7 @@ pub mod GoesOn
 pub mod Agreeing
 pub mod Taking
 pub mod Visits
+pub mod SentIn
 pub mod Clusters
 pub mod Lanes
 pub mod Occurring

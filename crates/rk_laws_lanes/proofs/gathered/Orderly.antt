@@ -27,7 +27,7 @@ module _ (client : ℕ) (session : Session) (orderly : IsOrderly client session)
   -- ---- a turn
 
   -- what is kept of a session whose ranges or requests change
-  pub ranged : (now : Session) → IsOrderly client (record session { requests = now.requests; ranges = now.ranges; request = now.request })
+  pub ranged : (now : Session) → IsOrderly client (record session { requests = now.requests; ranges = now.ranges; sent_in = now.sent_in })
   ranged now = grind arith
 
   pub turn_orderly : (out : Option Call) (turned : ClientTurn) → turn_of session out ≡ Some turned → IsOrderly client turned.session

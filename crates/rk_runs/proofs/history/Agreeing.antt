@@ -3,7 +3,7 @@ use Rattle.std.proofs.Common.{All, ◌≡◌, ℕ, zero, suc, ◌+◌, ◌<◌, 
 use Rattle.std.proofs.Common.{sym, ap, subst, ◌∙◌, ⊎_elim, arith, inl, inr, IfSome, slice_get, slice_set}
 use Rattle.rk_inv_base.proofs.Words.{cases_eq, false≢true, All-append, All-contains, All-push, All-weaker, Contains-append_left}
 use Rattle.rk_inv_base.proofs.Words.{Contains-push, none-some, Call, Op, Outcome, Placed, Receipt, slice_get_front, Located, Reply}
-use Rattle.rk_inv_base.proofs.Words.{Message, Session, call_lane, as_accepted, Ledger, asked_by, LastCall, IsAccepted}
+use Rattle.rk_inv_base.proofs.Words.{Session, call_lane, as_accepted, Ledger, asked_by, LastCall, IsAccepted}
 use Rattle.std.proofs.lemmas.List.{length_push}
 use Rattle.rk_model.proofs.Places.{all_from_places}
 use Rattle.rk_world.specs.Client.{done, receipt_of, with_next_call}
@@ -78,8 +78,9 @@ module _ (before after : ℕ → Ledger) (lane : ℕ) (new : Ledger) (changes : 
 
 module _ (ledgers : ℕ → Ledger) (client : ℕ) (session : Session) (agrees : Agrees ledgers client session) where
   -- with other ranges that it cached, and requests
-  pub agrees_looking : (ranges : List (List Located)) (requests : ℕ) (request : Option Message) → Agrees ledgers client (record session { ranges = ranges; requests = requests; request = request })
-  agrees_looking ranges requests request = grind (arith, asked_by)
+  pub agrees_looking : (ranges : List (List Located)) (requests : ℕ) (sent_in : Option ℕ)
+      → Agrees ledgers client (record session { ranges = ranges; requests = requests; sent_in = sent_in })
+  agrees_looking ranges requests sent_in = grind (arith, asked_by)
 
   -- a client that has no call outstanding asks its next one
   pub agrees_calling : (table : ℕ) (key : List ℕ) (op : Op) → session.outstanding ≡ None → Agrees ledgers client (with_next_call session table key op)

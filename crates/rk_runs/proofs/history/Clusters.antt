@@ -8,6 +8,7 @@ use Rattle.rk_entry.specs.Numbers.{IsNumber}
 use Rattle.rk_runs.specs.history.Agreement.{Agrees}
 use Rattle.rk_runs.proofs.history.Agreeing.{ChangesAt}
 use Rattle.rk_runs.proofs.history.Ordered.{IsLawfulLane}
+use Rattle.rk_runs.proofs.history.SentIn.{WasSentThere}
 
 -- the ledger of each lane
 abbrev pub ledgers_of : Cluster → ℕ → Ledger
@@ -23,10 +24,12 @@ pub record IsGoodLane (Steady : World → Type 0) (masters lane : ℕ) (w : Worl
   pub base_is : w.base ≡ no_base
   pub masters_are : w.coordinator.masters ≡ masters
 
--- a session that may act, where its client's number is lawful, as it is where a call is outstanding
+-- a session that may act, where its client's number is lawful, as it is where a call is outstanding; and that sent its last request, if
+-- there was one, in a lane that is there
 pub record IsGoodSession (masters client : ℕ) (session : Session) : Type 0 where
   pub acts : IsNumber w32 1 client → MayAct masters session
   pub lawful : IfSome session.outstanding (λ call. IsNumber w32 1 client)
+  pub sent_in : WasSentThere session
 
 -- a cluster between two occurrences
 pub record IsGood (Steady : World → Type 0) (masters : ℕ) (cluster : Cluster) : Type 0 where

@@ -63,7 +63,7 @@ module _ (Steady : World → Type 0) (masters : ℕ) where
         told = λ lane. subst (λ (l : Ledger). AreTold [] client lane l.journal) (sym (ledger_is lane)) (All-nil _);
         asked = λ lane. subst (λ (l : Ledger). IsLastKnown l.journal (new_session client) (asked_by l client)) (sym (ledger_is lane)) tt;
       };
-      sessions = λ client. record { acts = new_may_act masters client; lawful = tt };
+      sessions = λ client. record { acts = new_may_act masters client; lawful = tt; sent_in = tt };
     }
 
   -- so is each cluster of a run

@@ -23,6 +23,7 @@ use Rattle.rk_runs.proofs.history.Agreeing.{ChangesAt, agrees_calling, agrees_gr
 use Rattle.rk_runs.proofs.history.Clusters.{IsGood, IsGoodLane, IsGoodSession, changes_there, each_session, lanes_there, ledgers_of}
 use Rattle.rk_runs.proofs.history.GoesOn.{event_goes_on, same_ledger}
 use Rattle.rk_runs.proofs.history.Lanes.{ClientsKeep, EventsKeep, asking_good, event_good, taking_good}
+use Rattle.rk_runs.proofs.history.SentIn.{WasSentThere, asking_there, taking_there}
 use Rattle.rk_runs.proofs.history.Taking.{is_mine, says}
 use Rattle.rk_runs.proofs.history.Visits.{AgreeAfter, agree_asking, agree_taking}
 
@@ -68,7 +69,7 @@ module _ (Steady : World → Type 0) (masters : ℕ) (events_keep : EventsKeep S
   calling : (client : ℕ) (session : Session) (table : ℕ) (key : List ℕ) (op : Op) → Agrees (ledgers_of cluster) client session → IsGoodSession masters client session → IsLawfulCall (next_call session table key op) → (out : Option Call) → session.outstanding ≡ out
       → IsGood Steady masters (with_session cluster client (session_calling session table key op (option_map (λ (call : Call). call.seq) out)))
   calling client session table key op agrees acts lawful None idle =
-      grind (arith, w32, gets, agrees_calling, ledgers_of, may_act_calling, agrees.own, lawful.client, acts.acts)
+      grind (arith, w32, gets, agrees_calling, ledgers_of, may_act_calling, agrees.own, lawful.client, acts.acts, acts.sent_in)
   calling client session table key op agrees acts lawful (Some call) idle = gets client session agrees acts
 
   pub calls : (client table : ℕ) (key : List ℕ) (op : Op) → IsLawfulCall (next_call (session_at cluster client) table key op) → (found : Option Session) → get cluster.sessions client ≡ found → IsGood Steady masters (called_by_client cluster client table key op found)
@@ -123,8 +124,8 @@ module _ (Steady : World → Type 0) (masters : ℕ) (events_keep : EventsKeep S
     number_of call out = subst (λ (o : Option Call). IfSome o (λ c. IsNumber w32 1 client)) out (good.sessions client).lawful
 
     -- so is a session that may act after it
-    still : (call : Call) → mine.outstanding ≡ Some call → (session : Session) → MayAct masters session → IsGoodSession masters client session
-    still call out session may = record { acts = λ n. may; lawful = any session.outstanding }
+    still : (call : Call) → mine.outstanding ≡ Some call → (session : Session) → MayAct masters session → WasSentThere session → IsGoodSession masters client session
+    still call out session may sent_in = record { acts = λ n. may; lawful = any session.outstanding; sent_in = sent_in }
       where
         any : (o : Option Call) → IfSome o (λ c. IsNumber w32 1 client)
         any None = tt
@@ -141,7 +142,7 @@ module _ (Steady : World → Type 0) (masters : ℕ) (events_keep : EventsKeep S
         visited made.world made.session visit.world
         (agree_asking (ledgers_of cluster) (ledgers_of (visited_cluster made.world made.session)) lane client mine (good.agree client) v refl call out
         (changes made.world made.session))
-        (still call out made.session visit.acts)
+        (still call out made.session visit.acts (asking_there mine (good.sessions client).sent_in v (Some call)))
 
     pub asks : (refused : Option StepError) → ask_refusal v mine ≡ refused → IsGood Steady masters (cluster_visited cluster lane client (ask_by v mine refused))
     asks None none = asks_with none mine.outstanding refl
@@ -176,7 +177,7 @@ module _ (Steady : World → Type 0) (masters : ℕ) (events_keep : EventsKeep S
         visited taken.world taken.session visit.world
         (agree_taking (ledgers_of cluster) (ledgers_of (visited_cluster taken.world taken.session)) lane client mine (good.agree client) v number refl stood.sound stood.lane_is lies_in call is_out
         asked message.body told (changes taken.world taken.session))
-        (still call is_out taken.session visit.acts)
+        (still call is_out taken.session visit.acts (taking_there mine (good.sessions client).sent_in v message.body))
 
     accepts_with : (number : ℕ) (found : Option Message) → get v.wire.messages number ≡ found → (refused : Option StepError) → accept_refusal v number mine.client found ≡ refused → IsGood Steady masters (cluster_visited cluster lane client (accept_by v number mine refused))
     accepts_with number None on None none = absurd (cc none)

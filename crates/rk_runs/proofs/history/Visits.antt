@@ -110,7 +110,7 @@ module _ (before after : ℕ → Ledger) (lane client : ℕ) (session : Session)
 
   elsewhere : ChangesAt before after lane w.ledger → (ranges : List (List Located)) (requests : ℕ) → AgreeAfter before after client (record session { ranges = ranges; requests = requests })
   elsewhere changes ranges requests =
-      record { own = agrees_looking after client session (stays changes).own ranges requests session.request; others = (stays changes).others }
+      record { own = agrees_looking after client session (stays changes).own ranges requests session.sent_in; others = (stays changes).others }
 
   module _ (reply : Reply) (outcome : Outcome) (seq_is : reply.seq ≡ call.seq) (record_at : IsRecordAt w.ledger.journal session.client reply outcome) where
     may : MayAccept (view w) reply.place
