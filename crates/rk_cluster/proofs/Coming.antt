@@ -1,6 +1,6 @@
 -- A client's turn or answer in a lane is one in the cluster.
 use Rattle.rk_cluster.proofs.Words.{Said, acted, ◌≡◌, ◌≢◌, ◌<◌, ℕ, List, [], ◌∷◌, length, Option, None, Some, Result, Ok, Err, IfErr, IfOk}
-use Rattle.rk_cluster.proofs.Words.{IfSome, IsSomeAnd, OnErr, slice_get, slice_set, unwrap_or, refl, sym, ap, subst, ◌∙◌, inr, ⊎_elim}
+use Rattle.rk_cluster.proofs.Words.{IfSome, IsSomeAnd, OnErr, slice_get, slice_set, unwrap_or, refl, sym, ap, subst, ◌∙◌, inr}
 use Rattle.rk_cluster.proofs.Words.{arith, cases_eq, All-nil, slice_get_within, NumberMap, get, insert, Call, get_same, Segments, Visited}
 use Rattle.rk_cluster.proofs.Words.{accept, ask, Session, new_session, Accepts, Asks, Cluster, ClusterMay, KeepsCalm, Occurrence}
 use Rattle.rk_cluster.proofs.Words.{cluster_after, lane_at, session_at, ReplicasTell, AllTell, world_visited, World, new_world, StepError}

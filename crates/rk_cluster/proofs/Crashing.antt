@@ -1,5 +1,5 @@
 -- How a master crashes in all lanes.
-use Rattle.rk_cluster.proofs.Words.{◌≡◌, ◌<◌, ◌≤◌, ◌+◌, ◌-◌, ℕ, Bool, ◌&&◌, not, List, [], ◌∷◌, All, nat_le, length, slice_get, Option}
+use Rattle.rk_cluster.proofs.Words.{◌≡◌, ◌<◌, ◌≤◌, ◌+◌, ℕ, Bool, ◌&&◌, not, List, [], ◌∷◌, All, nat_le, length, slice_get, Option}
 use Rattle.rk_cluster.proofs.Words.{None, Some, IfSome, sym, ap, subst, ◌∙◌, arith, list_all, NumberMap, LANES, Segments, Session, IsMaster}
 use Rattle.rk_cluster.proofs.Words.{lives_another, World, has_crashed, LaneState, world_with, code_where, crash_code, first_code, ActsOne}
 use Rattle.rk_cluster.proofs.Words.{HasCode, LanesGoOn, is_dead, is_master, backup_counts, AreWorlds, AreLanes, CarriesSteps, IsHappening}

@@ -1,6 +1,6 @@
 -- Things that are dealt to eight hands.
 use Rattle.rk_cluster.proofs.Words.{◌≡◌, ◌≢◌, ◌%◌, ◌*◌, ◌<◌, ◌≤◌, ◌+◌, ℕ, zero, suc, List, [], ◌∷◌, ◌++◌, Some, length, slice_get}
-use Rattle.rk_cluster.proofs.Words.{slice_set, refl, sym, ap, ◌∙◌, ⊎_elim, arith, length-append, append_assoc, append-nil, length-set}
+use Rattle.rk_cluster.proofs.Words.{slice_set, refl, sym, ap, ◌∙◌, arith, length-append, append_assoc, append-nil, length-set}
 use Rattle.rk_cluster.proofs.Words.{slice_get_within, Vec, LANES, AreDealt, IsEighth}
 use Rattle.rk_cluster.proofs.Worlds.{set_beside, set_here}
 

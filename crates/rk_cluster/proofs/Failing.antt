@@ -7,7 +7,6 @@ use Rattle.rk_cluster.proofs.Words.{receiver_by, LaneState, Running, world_with,
 use Rattle.rk_cluster.proofs.Words.{left_by, lost_by}
 use Rattle.rk_types.specs.declared.node.Node.TheVariants as nodes
 use Rattle.rk_message.specs.declared.message.Body.{Body}
-use Rattle.rk_message.specs.declared.message.Body.TheVariants as bodies
 use Rattle.rk_world.specs.Backup.{Failed, called_by}
 use Rattle.rk_world.specs.Step.{delivered_to}
 use Rattle.rk_world.specs.declared.error.StepError.TheVariants as causes

@@ -1,9 +1,8 @@
 -- How counts of faults go on.
 use Rattle.rk_cluster.proofs.Words.{◌≡◌, ◌≢◌, ◌+◌, ◌++◌, ◌&&◌, ℕ, true, false, List, [], ◌∷◌, slice_get, slice_set, Option, None, Some}
-use Rattle.rk_cluster.proofs.Words.{refl, sym, subst, inl, ⊎_elim, arith, cases_eq, eq-eqb, Node, OneFailed, fault_counts, LaneState}
+use Rattle.rk_cluster.proofs.Words.{refl, sym, subst, inl, arith, cases_eq, eq-eqb, Node, OneFailed, fault_counts, LaneState}
 use Rattle.rk_cluster.proofs.Words.{CountsGoOn, LanesGoOn, RoseBy, counts_in, lane_counts, times_lost, Fate, Kept, Lost, ClusterState}
 use Rattle.rk_cluster.proofs.Words.{slice_get_within}
-use Rattle.std.specs.Prelude.{if◌then◌else◌}
 use Rattle.std.proofs.lemmas.Bool.{ne_eqb}
 use Rattle.rk_outside.specs.Faults.{Rose}
 use Rattle.rk_cluster.specs.Faults.{Counts, GoOn}

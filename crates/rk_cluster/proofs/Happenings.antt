@@ -1,5 +1,5 @@
 -- An event that came to a lane came to the cluster.
-use Rattle.rk_cluster.proofs.Words.{Node, ◌≡◌, ◌≢◌, ◌<◌, ℕ, Bool, false, List, [], ◌∷◌, length, Option, None, Some, Result, Ok, Err, IfErr}
+use Rattle.rk_cluster.proofs.Words.{◌≡◌, ◌≢◌, ◌<◌, ℕ, Bool, false, List, [], ◌∷◌, length, Option, None, Some, Result, Ok, Err, IfErr}
 use Rattle.rk_cluster.proofs.Words.{IfOk, IfSome, IsSomeAnd, slice_get, slice_set, refl, sym, ap, subst, ◌∙◌, arith, option_map, cond}
 use Rattle.rk_cluster.proofs.Words.{NumberMap, Segments, Called, Session, Cluster, Happens, cluster_stepped, lane_at, ReplicasTell}
 use Rattle.rk_cluster.proofs.Words.{MayHappen, comes_anyway, refusal, AllTell, Stepped, step, stepped_by, told_by_replica, World, new_world}
@@ -7,12 +7,10 @@ use Rattle.rk_cluster.proofs.Words.{StepError, Event, Seen, IsRefused, IsStepOf,
 use Rattle.rk_cluster.proofs.Words.{slice_get_within, acted_by, came_in, lost_in, worn_by, worn_in, IsActedAs, RunsTo, LanesGoOn, counts_in}
 use Rattle.rk_cluster.proofs.Words.{Fate, Kept, answer_of, left_by, IsOf, IsWorld, IsLosing, lost_by, state_of}
 use Rattle.std.specs.Option.{option_or}
-use Rattle.rk_types.specs.declared.node.Node.TheVariants as nodes
 use Rattle.rk_world.specs.Premises.{MayCome}
 use Rattle.rk_world.specs.Refusals.{fault_of, worn}
 use Rattle.rk_world.specs.Runs.{IsCalmEvent}
 use Rattle.rk_world.specs.declared.error.StepError.TheVariants as causes
-use Rattle.rk_world.specs.declared.event.Event.TheVariants as events
 use Rattle.rk_lane.specs.Events.{IsStepFrom}
 use Rattle.rk_lane.proofs.Steps.{calm_same, may_happen_same}
 use Rattle.rk_cluster.specs.Effects.{ActsAs}

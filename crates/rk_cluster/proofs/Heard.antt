@@ -1,9 +1,8 @@
 -- What a call hears of a lane's answer.
-use Rattle.rk_cluster.proofs.Words.{arith, subst, ◌≡◌, ℕ, true, [], Option, None, Some, Result, Err, IfErr, comes_anyway, refusal, World}
+use Rattle.rk_cluster.proofs.Words.{arith, subst, ◌≡◌, ℕ, true, Option, None, Some, Result, Err, IfErr, comes_anyway, refusal, World}
 use Rattle.rk_cluster.proofs.Words.{has_crashed, Event, StepError, Seen, IsRefused, LaneState, world_with, worn_by, worn_in, WhereWorn}
-use Rattle.rk_cluster.proofs.Words.{failure_of, Code, ClusterError}
+use Rattle.rk_cluster.proofs.Words.{failure_of, ClusterError}
 use Rattle.std.specs.Prelude.{⊤}
-use Rattle.rk_world.specs.declared.event.Event.TheVariants as events
 use Rattle.rk_world.specs.declared.error.StepError.TheVariants as causes
 use Rattle.rk_cluster.specs.declared.error.ClusterError.TheVariants as errors
 

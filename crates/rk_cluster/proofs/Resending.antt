@@ -1,13 +1,12 @@
 -- How a client sends its last request again: it reaches a master.
 use Rattle.rk_cluster.proofs.Words.{get_or-set_same, ◌≡◌, ◌<◌, ◌≤◌, ◌+◌, ℕ, Bool, true, false, not, List, [], ◌∷◌, length, slice_get}
 use Rattle.rk_cluster.proofs.Words.{is_none, is_some, unwrap_or, Option, Some, None, IfSome, Result, Ok, Err, refl, sym, ap, subst, ◌∙◌}
-use Rattle.rk_cluster.proofs.Words.{arith, slice_get_within, NumberMap, get, Segments, get_same, Node, Traffic, Message, Called, Gave}
+use Rattle.rk_cluster.proofs.Words.{arith, slice_get_within, NumberMap, get, Segments, get_same, Traffic, Message, Called, Gave}
 use Rattle.rk_cluster.proofs.Words.{refusal, IsFormedWithRoom, step, Stepped, told_for, World, new_world, StepError, Session, new_session}
 use Rattle.rk_cluster.proofs.Words.{Cluster, Happens, Occurrence, cluster_stepped, lane_at, session_at, LaneState, Running, world_with}
 use Rattle.rk_cluster.proofs.Words.{acted, all_acted, IsNextIn, IsSentAgain, again_code, code_where, first_code, Acts, ActsBy, ActsOne}
 use Rattle.rk_cluster.proofs.Words.{CutShortBy, HasCode, IsActedAs, is_client, again_makes, in_lane, AreButOne, ClusterState, IsOf, IsWorld}
 use Rattle.rk_cluster.proofs.Words.{IsHappening, state_of, Code, NothingSent, Unknown}
-use Rattle.rk_types.specs.declared.node.Node.TheVariants as nodes
 use Rattle.rk_message.specs.Wire.{HasSentNumbers}
 use Rattle.rk_world.specs.Room.{MOST_NUMBER}
 use Rattle.rk_world.specs.Runs.{world_stepped}
@@ -15,7 +14,7 @@ use Rattle.rk_world.specs.World.{standing}
 use Rattle.rk_world.specs.declared.event.Event.TheVariants as events
 use Rattle.rk_lane.specs.Requests.{AreForMasters, IsOfMaster}
 use Rattle.rk_cluster.specs.Again.{IsAgainCutShort, again_at}
-use Rattle.rk_cluster.specs.Makes.{again_by, again_in, request_lane}
+use Rattle.rk_cluster.specs.Makes.{again_by}
 use Rattle.rk_cluster.proofs.Carrying.{gone_on, last_stays, only_acts, worn_acts, worn_stays}
 use Rattle.rk_cluster.proofs.Deeds.{happens_plain}
 use Rattle.rk_cluster.proofs.Shortage.{lanes_short, made_short, none_short}
@@ -186,7 +185,7 @@ module _ {R : Type 0} (segments : R → Option Segments) where
     pub again_unknown : get sessions client ≡ None → HasCode segments (state_of lanes sessions) (λ cluster. again_code cluster client) (Some Unknown)
     again_unknown absent cluster is =
         let here : is_client cluster client ≡ false = ap (λ (known : NumberMap Session). is_some (get known client)) is.sessions ∙ ap (λ (o : Option Session). is_some o) absent in
-        ap (λ (b : Bool). first_code (code_where (not b) Unknown ∷ code_where (is_none (session_at cluster client).request) NothingSent ∷ [])) here
+        ap (λ (b : Bool). first_code (code_where (not b) Unknown ∷ code_where (is_none (session_at cluster client).sent_in) NothingSent ∷ [])) here
 
     module _ (session : Session) (found : get sessions client ≡ Some session) (cluster : Cluster) (is : IsOf segments (state_of lanes sessions) cluster) where
       session_is : session_at cluster client ≡ session
@@ -196,37 +195,37 @@ module _ {R : Type 0} (segments : R → Option Segments) where
       client_is : is_client cluster client ≡ true
       client_is = ap (λ (known : NumberMap Session). is_some (get known client)) is.sessions ∙ ap (λ (o : Option Session). is_some o) found
 
-    pub again_code_by : (session : Session) (request : Option Message) → get sessions client ≡ Some session → session.request ≡ request
-        → HasCode segments (state_of lanes sessions) (λ cluster. again_code cluster client) (code_where (is_none request) NothingSent)
-    again_code_by session request found asked cluster is =
+    pub again_code_by : (session : Session) (lane : Option ℕ) → get sessions client ≡ Some session → session.sent_in ≡ lane
+        → HasCode segments (state_of lanes sessions) (λ cluster. again_code cluster client) (code_where (is_none lane) NothingSent)
+    again_code_by session lane found sent cluster is =
         let one = client_is session found cluster is in
-        let two : is_none (session_at cluster client).request ≡ is_none request =
-        ap (λ (it : Session). is_none it.request) (session_is session found cluster is) ∙ ap (λ (o : Option Message). is_none o) asked in
-        (λ i. first_code (code_where (not (one i)) Unknown ∷ code_where (two i) NothingSent ∷ [])) ∙ only_code (code_where (is_none request) NothingSent)
+        let two : is_none (session_at cluster client).sent_in ≡ is_none lane =
+        ap (λ (it : Session). is_none it.sent_in) (session_is session found cluster is) ∙ ap (λ (o : Option ℕ). is_none o) sent in
+        (λ i. first_code (code_where (not (one i)) Unknown ∷ code_where (two i) NothingSent ∷ [])) ∙ only_code (code_where (is_none lane) NothingSent)
 
-    again_made : (session : Session) (message : Message) (lane number : ℕ) (its : LaneState R) → get sessions client ≡ Some session
-        → session.request ≡ Some message → request_lane message.body ≡ lane → slice_get lanes lane ≡ Some its → IsNextIn number its
+    again_made : (session : Session) (lane number : ℕ) (its : LaneState R) → get sessions client ≡ Some session
+        → session.sent_in ≡ Some lane → slice_get lanes lane ≡ Some its → IsNextIn number its
         → (cluster : Cluster) → IsOf segments (state_of lanes sessions) cluster → again_makes cluster client ≡ again_at lane client number
-    again_made session message lane number its found asked place there next cluster is =
-        let request : (session_at cluster client).request ≡ Some message = ap (λ (it : Session). it.request) (session_is session found cluster is) ∙ asked in
-        ap (again_by cluster client) request ∙ ap (again_in cluster client) place
+    again_made session lane number its found sent there next cluster is =
+        let sent_there : (session_at cluster client).sent_in ≡ Some lane = ap (λ (it : Session). it.sent_in) (session_is session found cluster is) ∙ sent in
+        ap (again_by cluster client) sent_there
         ∙ ap (again_at lane client) (sym (number_is lanes lane client number its there next sessions cluster is))
 
-    pub again_short : (session : Session) (message : Message) (lane number : ℕ) (its : LaneState R) (new : List (LaneState R)) → get sessions client ≡ Some session
-        → session.request ≡ Some message → request_lane message.body ≡ lane → slice_get lanes lane ≡ Some its → IsNextIn number its
+    pub again_short : (session : Session) (lane number : ℕ) (its : LaneState R) (new : List (LaneState R)) → get sessions client ≡ Some session
+        → session.sent_in ≡ Some lane → slice_get lanes lane ≡ Some its → IsNextIn number its
         → IsAgainCutShort segments lanes new lane client number
         → CutShortBy segments (state_of lanes sessions) (state_of new sessions) (λ cluster. again_makes cluster client)
-    again_short session message lane number its new found asked place there next short =
+    again_short session lane number its new found sent there next short =
         made_short segments (state_of lanes sessions) (state_of new sessions) (λ cluster. again_makes cluster client) (again_at lane client number)
-        (again_made session message lane number its found asked place there next) (short sessions)
+        (again_made session lane number its found sent there next) (short sessions)
 
-    pub again_acts : (session : Session) (message : Message) (lane number : ℕ) (its : LaneState R) (new : List (LaneState R)) (broken : Option ℕ) → get sessions client ≡ Some session
-        → session.request ≡ Some message → request_lane message.body ≡ lane → slice_get lanes lane ≡ Some its → IsNextIn number its
+    pub again_acts : (session : Session) (lane number : ℕ) (its : LaneState R) (new : List (LaneState R)) (broken : Option ℕ) → get sessions client ≡ Some session
+        → session.sent_in ≡ Some lane → slice_get lanes lane ≡ Some its → IsNextIn number its
         → IsSentAgain segments lanes new lane client number broken
         → ActsBy segments (state_of lanes sessions) (state_of new sessions) (λ cluster. again_makes cluster client) [] broken
-    again_acts session message lane number its new broken found asked place there next sent cluster is =
+    again_acts session lane number its new broken found sent there next made cluster is =
         subst (λ (list : List Occurrence). IsActedAs segments cluster (state_of new sessions) [] broken (all_acted cluster list))
-        (sym (again_made session message lane number its found asked place there next cluster is)) (sent sessions cluster is)
+        (sym (again_made session lane number its found sent there next cluster is)) (made sessions cluster is)
 
 -- ---- the lane
 

@@ -1,11 +1,10 @@
 -- How calls that run out of memory end.
 use Rattle.rk_cluster.proofs.Words.{arith, ◌≡◌, ℕ, List, [], ◌∷◌, ◌++◌, Option, None, Some, Result, Ok, Err, IfErr, OnErr, slice_get}
-use Rattle.rk_cluster.proofs.Words.{slice_set, refl, sym, ap, subst, ◌∙◌, inl, ⊎_elim, append-nil, append_assoc, NumberMap, get, insert}
+use Rattle.rk_cluster.proofs.Words.{slice_set, refl, sym, ap, subst, ◌∙◌, inl, append-nil, append_assoc, NumberMap, get, insert}
 use Rattle.rk_cluster.proofs.Words.{Said, Segments, Session, Cluster, Occurrence, StepError, Event, Seen, IsRefused, IsSameLane, LaneState}
 use Rattle.rk_cluster.proofs.Words.{Acts, ActsBy, ActsOne, AreCutShort, Carries, CutShortBy, AreButOne, HasTurnedOne, IsShortOf}
 use Rattle.rk_cluster.proofs.Words.{ClusterState, IsOf, failure_of, state_of, ClusterError}
 use Rattle.std.proofs.lemmas.Option.{none-some}
-use Rattle.rk_world.specs.declared.error.StepError.TheVariants as causes
 use Rattle.rk_lane.specs.Visits.{MayHaveTurned}
 use Rattle.rk_cluster.specs.Effects.{IsCutShort}
 use Rattle.rk_cluster.proofs.Carrying.{first_acts, none_acts}

@@ -62,7 +62,7 @@ abbrev pub again_code : Cluster → ℕ → Option Code
 again_code cluster client =
     first_code (
     code_where (not (is_client cluster client)) Unknown
-    ∷ code_where (is_none (session_at cluster client).request) NothingSent
+    ∷ code_where (is_none (session_at cluster client).sent_in) NothingSent
     ∷ [])
 
 -- a tablet begins to move to a master

@@ -2,7 +2,6 @@
 -- the call of a replica, where a message for a backup is delivered.
 use Rattle.std.specs.Prelude.{ℕ, ◌+◌, ◌==◌, Bool, true, if◌then◌else◌, List, [], ◌∷◌, ◌++◌, length, map, Option, Some, None}
 use Rattle.std.specs.List.{flat_map}
-use Rattle.rk_types.specs.Hashing.{hash_of, lane_of}
 use Rattle.rk_types.specs.NumberMap.{get}
 use Rattle.rk_types.specs.declared.call.Call.{Call}
 use Rattle.rk_types.specs.declared.call.Op.{Op}
@@ -10,8 +9,6 @@ use Rattle.rk_types.specs.declared.node.Node.{Node}
 use Rattle.rk_types.specs.declared.node.Node.TheVariants as nodes
 use Rattle.rk_types.specs.declared.range.Range.{Range}
 use Rattle.rk_message.specs.Wire.{number_at}
-use Rattle.rk_message.specs.declared.message.Body.{Body}
-use Rattle.rk_message.specs.declared.message.Body.TheVariants as bodies
 use Rattle.rk_message.specs.declared.message.Message.{Message}
 use Rattle.rk_world.specs.declared.event.Event.{Event}
 use Rattle.rk_world.specs.declared.event.Event.TheVariants as events
@@ -122,22 +119,17 @@ turn_makes cluster lane =
     ++ in_lane lane (events.Turn nodes.Coordinator)
     ∷ map (λ entry. in_lane lane (events.Turn (nodes.Master entry.0))) (live_masters (lane_at cluster lane))
 
--- the lane of a request
-abbrev pub request_lane : Body → ℕ
-request_lane (bodies.Request request) = lane_of (hash_of request.key)
-request_lane body = 0
-
 -- a request is sent again in its lane, delivered and forgotten
 abbrev pub again_in : Cluster → ℕ → ℕ → List Occurrence
 again_in cluster client lane =
     let number = (lane_at cluster lane).wire.sent + 1 in
     in_lane lane (events.Again client) ∷ in_lane lane (events.Deliver number) ∷ in_lane lane (events.Forget number) ∷ []
 
--- the last request of a client, if there is one, is sent again
-abbrev pub again_by : Cluster → ℕ → Option Message → List Occurrence
+-- the last request of a client is sent again in the lane that it was sent in, if there was one
+abbrev pub again_by : Cluster → ℕ → Option ℕ → List Occurrence
 again_by cluster client None = []
-again_by cluster client (Some message) = again_in cluster client (request_lane message.body)
+again_by cluster client (Some lane) = again_in cluster client lane
 
 -- a client sends its last request again
 abbrev pub again_makes : Cluster → ℕ → List Occurrence
-again_makes cluster client = again_by cluster client (session_at cluster client).request
+again_makes cluster client = again_by cluster client (session_at cluster client).sent_in

@@ -70,7 +70,7 @@ pub use Rattle.rk_cluster.specs.Acted.{Acted, acted, all_acted, came_in, going_o
 pub use Rattle.rk_cluster.specs.Codes.{code_where, first_code}
 pub use Rattle.rk_cluster.specs.Delivering.{is_lost_at_backup}
 pub use Rattle.rk_cluster.specs.Looks.{all_lanes, calls_asked, has_table, is_client, is_dead, is_master, is_tablet, lanes_without, rows_of}
-pub use Rattle.rk_cluster.specs.Makes.{client_makes, deliver_in_makes, delivery, delivery_of, has_receiver, in_lane, in_lanes, request_lane}
+pub use Rattle.rk_cluster.specs.Makes.{client_makes, deliver_in_makes, delivery, delivery_of, has_receiver, in_lane, in_lanes}
 pub use Rattle.rk_cluster.specs.Numbers.{number_of}
 pub use Rattle.rk_cluster.specs.Quiet.{has_applied_all, has_owners, is_owned_live, is_quiet, is_quiet_lane}
 pub use Rattle.rk_cluster.specs.Replicas.{Fate, Kept}

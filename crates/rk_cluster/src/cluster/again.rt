@@ -1,10 +1,9 @@
 // How a client sends its last request again.
 ghost use Rattle.std.specs.Prelude.{◌≡◌, ◌<◌, [], ℕ, length, None, Some, IfErr, IfOk, OnErr, OnOk};
-ghost use Rattle.rk_types.specs.declared.hashing.TheConstants.{LANES};
 ghost use Rattle.rk_cluster.specs.Again.{IsAgainCutShort, IsNextAt, IsSentAgain};
 ghost use Rattle.rk_cluster.specs.Codes.{again_code};
 ghost use Rattle.rk_cluster.specs.Effects.{EndsIn, IsCarriedOut};
-ghost use Rattle.rk_cluster.specs.Makes.{again_makes, request_lane as request_lane_lem};
+ghost use Rattle.rk_cluster.specs.Makes.{again_makes};
 ghost use Rattle.rk_cluster.specs.Faults.{CountsGoOn, LanesGoOn};
 ghost use Rattle.rk_cluster.specs.Masters.{backup_counts, backups_of};
 ghost use Rattle.rk_cluster.specs.Steps.{AreLanes, WhereWorn};
@@ -14,9 +13,8 @@ use crate::code::Code;
 use crate::error::ClusterError;
 use crate::steps::act;
 use rk_lane::Lane;
-use rk_message::Body;
 use rk_outside::Replica;
-use rk_types::{Said, hash, lane_of};
+use rk_types::Said;
 use rk_world::Event;
 
 impl<R: Replica + Drop> Cluster<R> {
@@ -34,10 +32,9 @@ impl<R: Replica + Drop> Cluster<R> {
         let Some(session) = self.sessions.get(&client) else {
             return Err(ClusterError::Code(Code::Unknown));
         };
-        let Some(request) = session.last_request() else {
+        let Some(lane) = session.sent_in() else {
             return Err(ClusterError::Code(Code::NothingSent));
         };
-        let lane = request_lane(&request.body);
         let its = &self.lanes[lane as usize];
         if its.spent() {
             return Err(ClusterError::NoMemory);
@@ -45,17 +42,6 @@ impl<R: Replica + Drop> Cluster<R> {
         let next = its.wire().sent() + 1;
         again_in(&mut self.lanes, lane, client, next)?;
         Ok(nothing_said(alloc))
-    }
-}
-
-// The lane of a request.
-fn request_lane(body: &Body) -> u8
-    ensures lane { result ≡ request_lane_lem body.now }
-    ensures there { result < LANES }
-{
-    match body {
-        Body::Request(request) => lane_of(hash(request.key.bytes())),
-        _ => 0,
     }
 }
 

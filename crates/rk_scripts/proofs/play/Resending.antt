@@ -3,12 +3,12 @@ use Rattle.std.proofs.Common.{◌≡◌, ℕ, ◌+◌, ◌<◌, List, [], ◌∷
 use Rattle.std.proofs.Common.{get_or-set_same}
 use Rattle.rk_scripts.proofs.Words.{get, get_same, LANES, Placed, Node, HasSentNumbers, Body, Message, Gave, Cluster, cluster_stepped}
 use Rattle.rk_scripts.proofs.Words.{lane_at, session_at, refusal, world_stepped, Stepped, sent_again, step, stepped_by, told_for, World}
-use Rattle.rk_scripts.proofs.Words.{backup_at, new_world, StepError, LastCall, view, IsSound, acted, all_acted, in_lane, request_lane}
+use Rattle.rk_scripts.proofs.Words.{backup_at, new_world, StepError, LastCall, view, IsSound, acted, all_acted, in_lane}
 use Rattle.rk_scripts.proofs.Words.{Event}
 use Rattle.rk_sound.specs.Asked.{IsRequest}
-use Rattle.rk_cluster.specs.Makes.{again_in, again_makes}
+use Rattle.rk_cluster.specs.Makes.{again_by, again_in, again_makes}
 use Rattle.rk_scripts.proofs.play.Allowed.{allowed_may, came_first}
-use Rattle.rk_scripts.proofs.play.Reaching.{GoesOn, lane_good, lane_there, none_on}
+use Rattle.rk_scripts.proofs.play.Reaching.{GoesOn, lane_good, lane_there, none_on, reached_good}
 
 -- ---- what a client sends calls no replica
 
@@ -77,5 +77,11 @@ module _ (masters backups : ℕ) (cluster : Cluster) (client : ℕ) where
       (none_on masters backups last)))
       reached
 
+  again_by_on : (lane : Option ℕ) → IfSome lane (λ lane. lane < LANES) → GoesOn masters backups cluster (all_acted cluster (again_by cluster client lane)).came
+  again_by_on None inside = none_on masters backups cluster
+  again_by_on (Some lane) inside = again_in_on lane inside
+
   pub again_on : GoesOn masters backups cluster (all_acted cluster (again_makes cluster client)).came
-  again_on = grind (arith, session_at, none_on, again_in_on, request_lane)
+  again_on reached =
+      let sent_in = (session_at cluster client).sent_in in
+      again_by_on sent_in ((reached_good masters backups cluster reached).sessions client).sent_in reached

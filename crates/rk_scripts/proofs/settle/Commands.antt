@@ -1,7 +1,7 @@
 -- Each client with a session was added in each lane after a command of a script too; and where the run does not stop at it, the clients of
 -- each lane are those with sessions.
 use Rattle.std.proofs.Common.{arith, ◌≡◌, ◌++◌, ◌==◌, ℕ, List, [], ◌∷◌, map, All, Option, None, Some, refl, flat_map}
-use Rattle.rk_scripts.proofs.Words.{All-append, All-cons, All-nil, Call, number_at, Message, Session, call_lane, Asks, Cluster, Joins}
+use Rattle.rk_scripts.proofs.Words.{All-append, All-cons, All-nil, Call, number_at, Session, call_lane, Asks, Cluster, Joins}
 use Rattle.rk_scripts.proofs.Words.{Occurrence, lane_at, session_at, Master, live_masters, Event, Acted, acted, all_acted, going_on}
 use Rattle.rk_scripts.proofs.Words.{all_lanes, lanes_without, Fate, Code, advance, advance_code, priority_code, serve_code, Course}
 use Rattle.rk_scripts.proofs.Words.{course_of, moved_all, priority, serve, settle, Command, Effect, carried, carried_by, effect}
@@ -50,8 +50,8 @@ turn_of_own cluster lane =
     All-append IsOfOwn (flat_map (λ entry. makes.asks_in lane entry.0 entry.1) cluster.sessions) (coordinator ∷ masters)
     (all_ask_of_own lane cluster.sessions) (All-cons IsOfOwn coordinator masters tt (masters_of_own lane live))
 
-again_of_own : (cluster : Cluster) (client : ℕ) (request : Option Message) → All IsOfOwn (makes.again_by cluster client request)
-again_of_own cluster client request = grind (arith, lane_at, one_of_own)
+again_of_own : (cluster : Cluster) (client : ℕ) (lane : Option ℕ) → All IsOfOwn (makes.again_by cluster client lane)
+again_of_own cluster client lane = grind (arith, lane_at, one_of_own)
 
 -- ---- what commands leave
 

@@ -25,12 +25,16 @@ returns-clause-ok g c =
     let later = c.take-answer.new.session in
     let written = c.get_mut.follows.holds later in
     let put = insert_tree c.args.sessions.now (c.get_mut.follows.lender later) c.args.client later c.in-Some.ensures.ordered written.4 (written.3 (subst IsSome c.in-Some.ensures.value refl)) in
+    let order = in_order_tree c.args.sessions.now c.in-Some.ensures.ordered in
     let its = c.take-answer.ensures in
     IfOk-weaker c.tell.result _ _ (λ said telling.
     let heard = heard_well c.take-answer.result telling.well in
-    rw (put, telling.said session.outstanding (sym c.asked_by-asked.ensures), ← heard.worn)
-    (accepts g.R.Replica.segments _ _ _ _ _ _ _ session later _ there found (in_order_tree c.args.sessions.now c.in-Some.ensures.ordered)
-    (accepts_lane g.R.Replica.segments c.args.arrival.number _ _ session later _ heard.memory its.ok its.refused its.kept its.session)))
+    let acts =
+    accepts g.R.Replica.segments c.args.lanes.now.items c.args.sessions.now.entries c.args.lane c.args.arrival.number c.args.client c.index_mut-at.result.now
+    c.take-answer.new.self session later c.take-answer.result there found order
+    (accepts_lane g.R.Replica.segments c.args.arrival.number c.index_mut-at.result.now c.take-answer.new.self session later c.take-answer.result heard.memory its.ok
+    its.refused its.kept its.session) in
+    rw put (rw (← telling.said session.outstanding (sym c.asked_by-asked.ensures), heard.worn) at acts))
     c.tell.ensures.ok
 
 pub returns-clause-short : goal.returns-clause-short
