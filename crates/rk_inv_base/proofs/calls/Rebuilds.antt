@@ -3,9 +3,8 @@ use Rattle.rk_inv_base.proofs.Words.{arith, ◌≡◌, ℕ, Bool, true, List, Co
 use Rattle.rk_inv_base.proofs.Words.{Member, Segments, Entry, Completions, Handover, Role, Rebuilding, Row, Log, known_of, EntryEnd, Gather}
 use Rattle.rk_inv_base.proofs.Words.{is_member, own_place, Written, member_material, Mark, stored_of, FormerMember, Holds, bond_of, post_of}
 use Rattle.rk_inv_base.proofs.Words.{rebuilder_post, IsRebuilder, MarkFits, NeededOf, READ_BACKUP, StandsLast, has_merged, RoleFits, View}
-use Rattle.rk_inv_base.proofs.Words.{RolesOf, lineage_of}
+use Rattle.rk_inv_base.proofs.Words.{RolesOf, lineage_of, CountsFor}
 use Rattle.rk_tablet_map.specs.Phase.{member as member_at}
-use Rattle.rk_inv_base.proofs.Words.{CountsFor}
 
 -- a master that rebuilds a row, by what is needed, what masters have written and what backups store
 abbrev pub IsRebuilderBy : (ℕ → EntryEnd → Type 0) → (ℕ → Log) → (ℕ → Written) → (ℕ → Segments) → Row → List Member → ℕ → List Entry → Handover → Completions → Gather → List Ended → List Held → Type 0

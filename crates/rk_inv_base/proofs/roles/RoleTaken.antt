@@ -10,11 +10,9 @@ use Rattle.rk_inv_base.proofs.Words.{handed_for_grant, is_waiting, is_wanting, s
 use Rattle.rk_inv_base.proofs.Words.{IsOfTarget, JoinedIn, OwnFits, PrepareFits, PulledAgrees, ReadyIn, RebuildFits, RebuiltIn, ReleaseFits}
 use Rattle.rk_inv_base.proofs.Words.{TransferIn, MayTakeRole, post_of, bond_of, speaks, StillCounts, MarkFits, HandedFits, MembersFit}
 use Rattle.rk_inv_base.proofs.Words.{is_granted, KeepTerm, RoleFits, role_taken, HasItems, has_all_items, HandoverFits, View, truths, rests}
-use Rattle.rk_inv_base.proofs.Words.{CoverOf, SoundView, Message, has_merged, MayRise}
+use Rattle.rk_inv_base.proofs.Words.{CoverOf, SoundView, Message, has_merged, MayRise, IsNextOf, SaysIn, SoundRow}
 use Rattle.rk_message.specs.declared.message.Body.TheVariants as bodies
-use Rattle.rk_inv_base.proofs.views.ByRows.{row_in, SoundBeside, view_by_rows, waits_for, staged_as}
-use Rattle.rk_inv_base.proofs.Words.{IsNextOf, SaysIn, SoundRow}
-use Rattle.rk_inv_base.proofs.views.ByRows.{IsRebuiltIn}
+use Rattle.rk_inv_base.proofs.views.ByRows.{row_in, IsRebuiltIn, SoundBeside, view_by_rows, waits_for, staged_as}
 use Rattle.rk_inv_base.proofs.views.OwnTablet.{SeenTablet, rows_but_one, seen_at}
 use Rattle.rk_inv_base.proofs.views.Put.{put2_by, put2_here, put2_other}
 use Rattle.rk_inv_base.proofs.rows.Apart.{same_number, one_met}

@@ -2,10 +2,9 @@
 use Rattle.rk_inv_base.proofs.Words.{arith, ◌≡◌, ℕ, List, [], ◌∷◌, eqb, refl, sym, subst, ⊎_elim, All, Contains, Ended, Member, Node}
 use Rattle.rk_inv_base.proofs.Words.{Completions, Handover, lineage_of, Phase, Rebuilding, Row, Body, Gather, second_of, Pulling, handed_by}
 use Rattle.rk_inv_base.proofs.Words.{handed_for_grant, is_waiting, is_waiting_at, HandedFits, MembersFit, RowIsRebuilt, View, truths}
-use Rattle.rk_inv_base.proofs.Words.{SoundView, cases_eq}
+use Rattle.rk_inv_base.proofs.Words.{SoundView, cases_eq, SaysIn, SoundRow}
 use Rattle.rk_inv_base.proofs.rows.Apart.{same_number}
 use Rattle.rk_inv_base.proofs.views.ByRows.{row_in}
-use Rattle.rk_inv_base.proofs.Words.{SaysIn, SoundRow}
 use Rattle.rk_inv_base.proofs.views.Lists.{all_by}
 
 -- what is seen of a tablet at a master

@@ -3,10 +3,9 @@ use Rattle.rk_inv_base.proofs.Words.{false, sym, subst, ◌∙◌, ◌≡◌, �
 use Rattle.rk_inv_base.proofs.Words.{◌<◌, get, Member, Node, Entry, at_hash, batch_at, next_token, Handover, Row, Log, EntryEnd}
 use Rattle.rk_inv_base.proofs.Words.{BATCH_BYTES, Grant, Prepare, Tenure, Body, Got, Pulled, Rebuild, Handed, as_entries, Written, IfMaster}
 use Rattle.rk_inv_base.proofs.Words.{ByMaster, IsOfTarget, PrepareFits, CloseFits, RebuildFits, ReleaseFits, GrantAgrees, IsFromSource}
-use Rattle.rk_inv_base.proofs.Words.{PulledAgrees, GotAgrees, NeededOf, scan_items, View, MessagesOf, is_wanting, Message}
+use Rattle.rk_inv_base.proofs.Words.{PulledAgrees, GotAgrees, NeededOf, scan_items, View, MessagesOf, SaysIn, is_wanting, Message}
 use Rattle.rk_types.specs.declared.node.Node.TheVariants as nodes
 use Rattle.rk_inv_base.proofs.views.Seen.{AllLook}
-use Rattle.rk_inv_base.proofs.Words.{SaysIn}
 
 -- what is said where a node is a master, it says as well where that follows
 pub if_master : (node : Node) (Fits Gives : ℕ → Type 0) → ((master : ℕ) → Fits master → Gives master) → IfMaster node Fits → IfMaster node Gives
