@@ -36,7 +36,7 @@ pub use Rattle.rk_inv_base.proofs.views.Lists.{all_by, all_in, none_kept, none_p
 pub use Rattle.rk_inv_base.proofs.views.Masters.{tablet_apart, tablet_here}
 pub use Rattle.rk_inv_base.proofs.views.Needed.{AreAmong, IsStoredEnd, among_then, end_stored, gathered_by, given_up_among, living_among}
 pub use Rattle.rk_inv_base.proofs.views.Needed.{needed_grown, needed_member, needed_within, numbers_append, rebuilder_weaker, tells_among}
-pub use Rattle.rk_inv_base.proofs.views.OwnTablet.{row_kept, seen_at}
+pub use Rattle.rk_inv_base.proofs.views.OwnTablet.{row_kept}
 pub use Rattle.rk_inv_base.proofs.views.Places.{behind_none}
 pub use Rattle.rk_inv_base.proofs.views.Put.{put2_by, put2_here, put2_other, put2_same, put_by, put_is, put_other, put_same}
 pub use Rattle.rk_inv_base.proofs.views.Seen.{AllLook, GoesOn, LooksAs, counted_looks, looks_same}

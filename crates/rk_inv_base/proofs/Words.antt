@@ -257,10 +257,10 @@ pub use Rattle.rk_sound.specs.Small.{passing, place_noted_in, pulled, reading, r
 pub use Rattle.rk_sound.specs.Small.{refused, replayed, request_saved, resolving, stored_more, tablet_closed_in, tablet_frozen_in}
 pub use Rattle.rk_sound.specs.Small.{tablet_owned_in, tablet_released_in, token_passed_in, wanting_hash, write_staged_in}
 pub use Rattle.rk_sound.specs.Tables.{HasItems, IsTableOf, has_all_items}
-pub use Rattle.rk_sound.specs.Things.{CountsFor, IsNextOf, SaysIn, SoundRow, SoundThings, SpeaksFor}
+pub use Rattle.rk_sound.specs.Things.{CountsFor, IsNextOf, SaysIn, SoundRow, SoundTablet, SoundThings, SpeaksFor}
 pub use Rattle.rk_sound.specs.Terms.{HandoverFits, IsBelowOthers, IsWithinTerm, SentFits, range_in, tenure_in, Terms}
 pub use Rattle.rk_sound.specs.Truth.{IsAfterSeen, IsTruth}
-pub use Rattle.rk_sound.specs.View.{View, rests, truths, view}
+pub use Rattle.rk_sound.specs.View.{View, rests, tablet_seen, truths, view}
 pub use Rattle.rk_sound.specs.Whole.{AskedOf, CallsOf, CountersOf, CoverOf, IsSound, LogsOf, MessagesOf, NodesOf, OrderOf, RebuildsOf}
 pub use Rattle.rk_sound.specs.Whole.{ReceivesOf, RestOf, RolesOf, RowsOf, SoundParts, SoundView, TablesOf, TermsOf, TruthOf}
 pub use Rattle.rk_sound.specs.Nodes.{SomeLives}

@@ -1,7 +1,9 @@
 pub mod Put
 pub mod ByRows
 pub mod ByThings
+pub mod Turned
 pub mod OwnTablet
+pub mod TabletReplaced
 pub mod Masters
 pub mod Lists
 pub mod Fresh

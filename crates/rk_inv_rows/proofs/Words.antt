@@ -5,12 +5,12 @@ pub use Rattle.rk_inv_base.proofs.calls.Records.{filter_from, filter_stands, in_
 pub use Rattle.rk_inv_base.proofs.calls.Records.{stands_is_found}
 pub use Rattle.rk_inv_base.proofs.logs.Floors.{floor_above, floor_rises, floor_step}
 pub use Rattle.rk_inv_base.proofs.logs.InRest.{behind_at, of_waiting}
-pub use Rattle.rk_inv_base.proofs.logs.MarkedApart.{apart_either, entry_apart, in_piece, marks_none, place_of, taken}
+pub use Rattle.rk_inv_base.proofs.logs.MarkedApart.{entry_apart, in_piece, marks_none, place_of, taken}
 pub use Rattle.rk_inv_base.proofs.logs.Missed.{Misses, all_names_none, counting_none, drop_missed, joined_none, map_elsewhere}
 pub use Rattle.rk_inv_base.proofs.logs.Missed.{material_none, none_touches, unmarked_missed}
 pub use Rattle.rk_inv_base.proofs.pulls.Joining.{differ, kept_stands}
 pub use Rattle.rk_inv_base.proofs.rows.AddedRows.{all_with, known_placed, new_placed, stands_placed, stood_placed}
-pub use Rattle.rk_inv_base.proofs.rows.Apart.{contains_cases, has_itself, in_one_row, key_outside, one_precedes, same_number}
+pub use Rattle.rk_inv_base.proofs.rows.Apart.{apart_either, contains_cases, has_itself, in_one_row, key_outside, one_precedes, same_number}
 pub use Rattle.rk_inv_base.proofs.rows.RowReplaced.{cover_replaced, covered_replaced, known_replaced, view_replaced}
 pub use Rattle.rk_inv_base.proofs.rows.Serving.{found_stands, meets_either}
 pub use Rattle.rk_inv_base.proofs.rows.TurnedRows.{all_turned, covered_turned, known_turned, new_stands, stands_found, stands_still, stood}

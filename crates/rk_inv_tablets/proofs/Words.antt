@@ -13,7 +13,7 @@ pub use Rattle.rk_inv_base.proofs.logs.InRange.{AreIn, IsIn, applied_in, in_by_k
 pub use Rattle.rk_inv_base.proofs.logs.InRest.{behind_at}
 pub use Rattle.rk_inv_base.proofs.logs.LengthTold.{each_member, members_by}
 pub use Rattle.rk_inv_base.proofs.logs.Logs.{copy_grown, first_part_more, logs_grown, none_stored, piece_grown}
-pub use Rattle.rk_inv_base.proofs.logs.MarkedApart.{apart_either, entry_apart, in_piece, not_all, place_of}
+pub use Rattle.rk_inv_base.proofs.logs.MarkedApart.{entry_apart, in_piece, not_all, place_of}
 pub use Rattle.rk_inv_base.proofs.logs.Segments.{Grows, bytes_in, bytes_main, bytes_side, bytes_zero, first_part_same, found_in}
 pub use Rattle.rk_inv_base.proofs.logs.Segments.{numbered_at, numbered_before, numbered_past, with_bytes_front, with_bytes_full}
 pub use Rattle.rk_inv_base.proofs.logs.Shares.{drop_all, joined_same, rest_inside, unless_marked, unmarked_from_last, unmarked_from_none}
@@ -23,7 +23,7 @@ pub use Rattle.rk_inv_base.proofs.roles.Released.{IsOutside, heir_outside, outsi
 pub use Rattle.rk_inv_base.proofs.roles.RoleTaken.{rows_apart}
 pub use Rattle.rk_inv_base.proofs.roles.Roles.{role_looks, roles_looks, terms_look}
 pub use Rattle.rk_inv_base.proofs.roles.Steady.{IsHeir, heir_post}
-pub use Rattle.rk_inv_base.proofs.rows.Apart.{contains_cases, has_itself, in_one_row, key_outside, one_precedes, same_number}
+pub use Rattle.rk_inv_base.proofs.rows.Apart.{apart_either, contains_cases, has_itself, in_one_row, key_outside, one_precedes, same_number}
 pub use Rattle.rk_inv_base.proofs.rows.Serving.{found_stands, meets_either}
 pub use Rattle.rk_inv_base.proofs.rows.Speakers.{speaker_is, speaker_of, waiting_at}
 pub use Rattle.rk_inv_base.proofs.rows.TurnedRows.{behind_first, stands_found}
@@ -37,7 +37,7 @@ pub use Rattle.rk_inv_base.proofs.views.Lists.{all_by}
 pub use Rattle.rk_inv_base.proofs.views.Masters.{master_other, master_same, same_of_all, same_of_each, tablet_apart, tablet_here}
 pub use Rattle.rk_inv_base.proofs.views.Needed.{AreAmong, among_front, among_then, extended_among, kept_within, needed_grown, needed_member}
 pub use Rattle.rk_inv_base.proofs.views.Needed.{part_weaker, rebuilder_weaker, sides_extend}
-pub use Rattle.rk_inv_base.proofs.views.OwnTablet.{SeenTablet, alone, row_kept, seen_at}
+pub use Rattle.rk_inv_base.proofs.views.OwnTablet.{alone, row_kept}
 pub use Rattle.rk_inv_base.proofs.views.Put.{put2_by, put2_here, put2_other, put2_same, put_by, put_here, put_is, put_other, put_same}
 pub use Rattle.rk_inv_base.proofs.views.Seen.{AllLook, GoesOn, LooksAs, looks_same}
 pub use Rattle.rk_inv_base.proofs.views.Tables.{all_items_same}
@@ -52,7 +52,8 @@ pub use Rattle.rk_inv_tablets.specs.merge.Small.{as_merged, merge_in, merged_vie
 pub use Rattle.rk_inv_tablets.specs.merge.Small.{rebuild_merged_in, with_entries, with_piece}
 pub use Rattle.rk_inv_tablets.specs.ready.Small.{as_begun, as_rebuilding, as_wanting, begins_from, begun, begun_tablets, items_left}
 pub use Rattle.rk_inv_tablets.specs.ready.Small.{others_given_up, prepared, prepared_tablets, rebuild_begun_in, tablet_prepared_in}
-pub use Rattle.rk_inv_tablets.specs.ready.Small.{tablet_seen, tablets_taken}
+pub use Rattle.rk_inv_tablets.specs.ready.Small.{tablets_taken}
+pub use Rattle.rk_sound.specs.View.{tablet_seen}
 pub use Rattle.rk_inv_tablets.specs.seal.Moves.{AreSealedThere, MaySealThere}
 pub use Rattle.rk_inv_tablets.specs.seal.Small.{as_joining, as_sealed, sealed, side_lists_sealed_in, sides_cut, sides_joined}
 pub use Rattle.rk_inv_tablets.specs.seal.Small.{with_side_items, with_sides}

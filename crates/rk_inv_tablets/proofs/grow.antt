@@ -1,3 +1,2 @@
 pub mod MoreLog
 pub mod Grown
-pub mod Turned

@@ -22,8 +22,6 @@ pub record Makes (fate : Fate) (course next : Course) : Type 0 where
   pub cluster : next.cluster ≡ (all_acted course.cluster occurrences).cluster
   pub worn : (all_acted course.cluster occurrences).worn ≡ None
 
--- ---- calls
-
 -- ---- moves
 
 -- nothing occurs

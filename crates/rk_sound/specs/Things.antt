@@ -25,7 +25,8 @@ use Rattle.rk_world.specs.Master.{touches}
 use Rattle.rk_world.specs.Notices.{names}
 use Rattle.rk_world.specs.Premises.{IsAfterStart, IsMaster}
 use Rattle.rk_world.specs.RoleTests.{is_absent, is_idle}
-use Rattle.rk_sound.specs.View.{View, truths, rests}
+use Rattle.rk_world.specs.Tablet.{Tablet}
+use Rattle.rk_sound.specs.View.{View, tablet_seen, truths, rests}
 use Rattle.rk_sound.specs.Nodes.{SomeLives}
 use Rattle.rk_sound.specs.Rows.{IsFormed, IsPlaced}
 use Rattle.rk_sound.specs.Terms.{HandoverFits, SentFits}
@@ -125,32 +126,32 @@ pub record SoundRow (v : View) (row : Row) : Type 0 where
 
 -- ---- a master and a tablet
 
-pub record SoundTablet (v : View) (q tablet : ℕ) : Type 0 where
+-- what the invariant says where a master has this of a tablet
+pub record SoundTablet (v : View) (q number : ℕ) (tablet : Tablet) : Type 0 where
   -- Terms
-  pub kept : All (λ row. HandoverFits row tablet (v.handovers q tablet)) v.rows
-  pub begun : is_absent (v.handovers q tablet).role ≡ false → 1 ≤ (v.handovers q tablet).term
+  pub kept : All (λ row. HandoverFits row number tablet.handover) v.rows
+  pub begun : is_absent tablet.handover.role ≡ false → 1 ≤ tablet.handover.term
   pub apart :
-      (other : ℕ) → tablet ≢ other → is_absent (v.handovers q tablet).role ≡ false → is_absent (v.handovers q other).role ≡ false
-      → meets (v.handovers q tablet).range (v.handovers q other).range ≡ false
+      (other : ℕ) → number ≢ other → is_absent tablet.handover.role ≡ false → is_absent (v.handovers q other).role ≡ false
+      → meets tablet.handover.range (v.handovers q other).range ≡ false
   -- Cover
-  pub unknown : row_of v.rows tablet ≡ None → (v.handovers q tablet).term ≡ 0
-  pub ranges : 1 ≤ (v.handovers q tablet).term → IsWithinRows v.rows (v.handovers q tablet).range
+  pub unknown : row_of v.rows number ≡ None → tablet.handover.term ≡ 0
+  pub ranges : 1 ≤ tablet.handover.term → IsWithinRows v.rows tablet.handover.range
   -- Roles
-  pub has_row : v.live q ≡ true → is_absent (v.handovers q tablet).role ≡ false → is_some (row_of v.rows tablet) ≡ true
+  pub has_row : v.live q ≡ true → is_absent tablet.handover.role ≡ false → is_some (row_of v.rows number) ≡ true
   -- Calls
   pub known :
       v.live q ≡ true
-      → All (λ end. IsKnown v.base v.journal end ⊎ IsStagedEnd v.rows (rests v) q tablet (v.handovers q tablet).term end)
-      (ends_of (v.completions q tablet))
+      → All (λ end. IsKnown v.base v.journal end ⊎ IsStagedEnd v.rows (rests v) q number tablet.handover.term end)
+      (ends_of tablet.completions)
   -- Receives
   pub bare :
-      IfSome (wanted_place (v.handovers q tablet).role)
-      (λ from. IsBare (v.handovers q tablet).range from (v.written q) (v.records q))
+      IfSome (wanted_place tablet.handover.role) (λ from. IsBare tablet.handover.range from (v.written q) (v.records q))
 
 -- ---- a master with its log and its tablets
 
 pub record SoundMaster (v : View) (q : ℕ) : Type 0 where
-  pub tablets : (tablet : ℕ) → SoundTablet v q tablet
+  pub tablets : (number : ℕ) → SoundTablet v q number (tablet_seen v q number)
   -- Nodes
   pub numbered : v.numbers q ≡ q
   pub known_backups : IsMaster v.masters q → length (v.logs q).known ≡ v.backups

@@ -15,7 +15,7 @@ use Rattle.rk_tablet_map.specs.declared.row.Row.{Row}
 use Rattle.rk_message.specs.declared.message.Message.{Message}
 use Rattle.rk_world.specs.Base.{Base}
 use Rattle.rk_world.specs.Gather.{Gather}
-use Rattle.rk_world.specs.Tablet.{Pulling}
+use Rattle.rk_world.specs.Tablet.{Pulling, Tablet}
 use Rattle.rk_world.specs.Coordinator.{Handed}
 use Rattle.rk_world.specs.declared.ledger.LastCall.{LastCall}
 use Rattle.rk_world.specs.Ledger.{asked_by}
@@ -77,6 +77,16 @@ view w = record {
   asked = asked_by w.ledger;
   wire = w.wire.messages;
   requests = w.ledger.requests;
+}
+
+-- what is seen of a tablet of a master
+abbrev pub tablet_seen : View → ℕ → ℕ → Tablet
+tablet_seen v master tablet = record {
+  handover = v.handovers master tablet;
+  completions = v.completions master tablet;
+  pulling = v.pullings master tablet;
+  gather = v.gathers master tablet;
+  merged_ends = v.merged master tablet;
 }
 
 -- the truth of each row

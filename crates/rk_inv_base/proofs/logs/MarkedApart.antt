@@ -7,6 +7,7 @@ use Rattle.rk_inv_base.proofs.Words.{counts, has_all, Mark, HasOwnRange, IsOfRan
 use Rattle.rk_inv_base.proofs.Words.{View, SoundView}
 use Rattle.rk_inv_base.proofs.Base.{key_outside, one_precedes, behind_at, behind_first, row_in, floor_rises}
 use Rattle.rk_inv_base.proofs.rows.Serving.{found_stands}
+use Rattle.rk_inv_base.proofs.rows.Apart.{apart_either}
 
 -- ---- places
 
@@ -41,10 +42,6 @@ not_all a b apart some = grind (arith, nat_tests)
 pub entry_apart : (a b : Range) → meets a b ≡ false → meets b a ≡ false → b.first ≤ b.last → (entry : Entry) → IsOfRange a entry → counts b entry ≡ false
 entry_apart a b apart back some entry of = grind (arith, key_outside, not_all)
 
--- ranges that do not meet do not the other way round
-pub apart_either : (a b : Range) → meets a b ≡ false → meets b a ≡ false
-apart_either a b apart = grind (arith, nat_tests)
-
 -- where no marked entry counts, nothing does of what is marked
 pub none_counted : (range : Range) (marks : List Mark) (list : List Entry) (place : ℕ) → ((k : ℕ) (entry : Entry) → slice_get list k ≡ Some entry → is_marked marks (place + k) ≡ true → counts range entry ≡ false) → counting range (marked_entries marks place list) ≡ []
 none_counted range marks [] place none = refl
@@ -62,8 +59,6 @@ none_counted range marks (entry ∷ list) place none =
     (none 0 entry refl (subst (λ (n : ℕ). is_marked marks n ≡ true) same marked))
     ∙ later)
     (λ unmarked. later)
-
--- ---- nothing tells no more than any entries
 
 -- ---- a row that is not rebuilt
 

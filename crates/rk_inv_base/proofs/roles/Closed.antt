@@ -6,8 +6,6 @@ use Rattle.rk_inv_base.proofs.Words.{speaks, View, SoundView, MayClose, as_closi
 use Rattle.rk_transfer.specs.declared.role.Role.TheVariants as roles
 use Rattle.rk_inv_base.proofs.Base.{row_in}
 
--- ---- roles that may close
-
 -- ---- who may close
 
 -- a lineage has one member, which is this master

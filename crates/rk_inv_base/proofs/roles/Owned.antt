@@ -5,12 +5,6 @@ use Rattle.rk_inv_base.proofs.Words.{is_granted, role_taken, View, view, SoundVi
 use Rattle.rk_inv_base.proofs.Base.{put2_by, put2_here, put2_same, IsTargetIn, view_role_taken, view_kept, row_in, at_most}
 use Rattle.rk_inv_base.proofs.views.WithRecords.{view_with_pullings}
 
--- ---- roles whose closing entry is applied
-
--- ---- posts of those who own a tablet, or owned it
-
--- ---- the role
-
 module _ (v : View) (row : Row) (master : ℕ) (sound : SoundView v) (may : MayOwn v row master) where
   abbrev old : Handover
   old = v.handovers master row.tablet

@@ -43,6 +43,10 @@ same_number rows a b apart first second same =
 pub one_met : (rows : List Row) (a b : Row) → IsTabletMap rows → Contains rows a → Contains rows b → meets a.range b.range ≡ true → a ≡ b
 one_met rows a b apart first second met = grind (arith, meets, nat_tests, false≢true, one_precedes)
 
+-- ranges that do not meet do not meet the other way round
+pub apart_either : (a b : Range) → meets a b ≡ false → meets b a ≡ false
+apart_either a b apart = grind (arith, nat_tests)
+
 -- a key of a range is in none that does not meet it
 pub key_outside : (a b : Range) (table : ℕ) (key : List ℕ) → meets a b ≡ false → has_key b table key ≡ true → has_key a table key ≡ false
 key_outside a b table key apart inside = grind (arith, nat_tests)

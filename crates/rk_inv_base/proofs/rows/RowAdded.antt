@@ -1,6 +1,6 @@
 -- A lane stays sound when a row is added for a master that serves it at once: nobody speaks of its number or of its range so far.
 use Rattle.rk_inv_base.proofs.Words.{◌≡◌, ℕ, ◌≤◌, ◌<◌, Bool, true, false, cond, ◌&&◌, List, [], ◌∷◌, Option, Some, None, eqb, leb, refl}
-use Rattle.rk_inv_base.proofs.Words.{sym, ap, subst, ◌∙◌, ⊎_elim, arith, ◌⊎◌, IfSome, is_some, drop, All, Contains, flat_map, eq-eqb}
+use Rattle.rk_inv_base.proofs.Words.{sym, ap, subst, ◌∙◌, ⊎_elim, arith, tablet_seen, ◌⊎◌, IfSome, is_some, drop, All, Contains, flat_map, eq-eqb}
 use Rattle.rk_inv_base.proofs.Words.{eqb-true, ne_eqb, append-nil, length, cases_eq, cases_lt, false≢true, or_left, nat_tests, All-contains}
 use Rattle.rk_inv_base.proofs.Words.{All-nil, All-cons, All-weaker, IfSome_then, hash_of, has, meets, Call, Ended, Held, Waits, Placed}
 use Rattle.rk_inv_base.proofs.Words.{Member, Range, is_at_parts, is_at, live_after, map_after, last_version, never, is_mutation, Entry}
@@ -15,7 +15,7 @@ use Rattle.rk_inv_base.proofs.Words.{false_from_ne_true, is_of_parts, All-take, 
 use Rattle.rk_inv_base.proofs.Words.{MayAdd, added, as_added, true_from_ne_false}
 use Rattle.rk_transfer.specs.declared.role.Role.TheVariants as roles
 use Rattle.rk_inv_base.proofs.Base.{row_in, IsNextOf, SoundBeside, SoundRow, none_for_owned, view_by_rows, waits_for, staged_as, row_kept}
-use Rattle.rk_inv_base.proofs.Base.{seen_at, covered_by, all_by, none_pass, put2_by, put2_here, put2_other, put2_same, IsBareOf}
+use Rattle.rk_inv_base.proofs.Base.{covered_by, all_by, none_pass, put2_by, put2_here, put2_other, put2_same, IsBareOf}
 use Rattle.rk_inv_base.proofs.Base.{stands_found, view_kept}
 use Rattle.rk_inv_base.proofs.rows.AddedRows.{all_with, covered_still, known_placed, new_placed, stands_placed, uncovered}
 use Rattle.rk_inv_base.proofs.rows.AddedSays.{says_new}
@@ -346,7 +346,7 @@ module _ (v : View) (tablet : ℕ) (range : Range) (master : ℕ) (sound : Sound
   row_on : (x : Row) → Contains v.rows x → SoundRow now x
   row_on x has =
       row_kept v now x (λ seen. refl)
-      (λ q i. record (seen_at v x.tablet q) { handover = sym (apart q x.tablet (other x has)) i })
+      (λ q i. record (tablet_seen v q x.tablet) { handover = apart q x.tablet (other x has) i })
       (row_in v sound x has)
 
   pub view_added : SoundView now

@@ -1,16 +1,12 @@
 -- The law of rows: what the invariant says of a row, row by row, and what it says beside that. A view whose rows all have the one and
 -- which has the other is sound; so a change of one row is shown by what is to hold of that row.
-use Rattle.rk_inv_base.proofs.Words.{arith, None, eqb, List, Contains, ◌≡◌, ◌≢◌, ℕ, ◌≤◌, true, false, ◌⊎◌, Some, All, IfSome}
-use Rattle.rk_inv_base.proofs.Words.{is_some, length, slice_get, Range, Owned, All-contains, Handover, Written, Call, has_key, last_of}
-use Rattle.rk_inv_base.proofs.Words.{may_have_staged, hash_of, EachIn, meets, IsLegal, IsRisingAbove, Placed}
-use Rattle.rk_inv_base.proofs.Words.{AreOneMutation, ends_of, lineage_of, IsTabletMap, is_covered, row_of, Row, Body, base_map}
-use Rattle.rk_inv_base.proofs.Words.{told, IsMaster, is_absent, IsKnown}
-use Rattle.rk_inv_base.proofs.Words.{IsStagedEnd, handed_by}
-use Rattle.rk_inv_base.proofs.Words.{Says, RowIsRebuilt, IsBare}
-use Rattle.rk_inv_base.proofs.Words.{wanted_place, IsLast, EachHasCall, Waits}
-use Rattle.rk_inv_base.proofs.Words.{IsInScanOrder, HandoverFits}
-use Rattle.rk_inv_base.proofs.Words.{IsAfterSeen, View, truths, rests, SoundView, CoverOf, LogsOf, AskedOf, Entry, Ended}
-use Rattle.rk_inv_base.proofs.Words.{All-weaker, Message, get, Phase, SomeLives, SoundRow}
+use Rattle.rk_inv_base.proofs.Words.{arith, None, eqb, List, Contains, ◌≡◌, ◌≢◌, ℕ, ◌≤◌, true, false, ◌⊎◌, Some, All, IfSome, is_some}
+use Rattle.rk_inv_base.proofs.Words.{length, slice_get, Range, Owned, All-contains, Handover, Written, Call, has_key, last_of}
+use Rattle.rk_inv_base.proofs.Words.{may_have_staged, hash_of, EachIn, meets, IsLegal, IsRisingAbove, Placed, AreOneMutation, ends_of}
+use Rattle.rk_inv_base.proofs.Words.{lineage_of, IsTabletMap, is_covered, row_of, Row, Body, base_map, told, IsMaster, is_absent, IsKnown}
+use Rattle.rk_inv_base.proofs.Words.{IsStagedEnd, handed_by, Says, RowIsRebuilt, IsBare, wanted_place, IsLast, EachHasCall, Waits}
+use Rattle.rk_inv_base.proofs.Words.{IsInScanOrder, HandoverFits, IsAfterSeen, View, truths, rests, SoundView, CoverOf, LogsOf, AskedOf}
+use Rattle.rk_inv_base.proofs.Words.{Entry, Ended, All-weaker, Message, get, Phase, SomeLives, SoundRow}
 
 -- what is said of a row in a phase in which it may be rebuilt
 abbrev pub IsRebuiltIn : View → Row → Phase → Type 0

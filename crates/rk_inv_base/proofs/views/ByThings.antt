@@ -1,22 +1,26 @@
 -- The invariant by its sixteen parts, and by the things that it speaks of: a view that has the one has the other.
-use Rattle.rk_inv_base.proofs.Words.{CoverOf, Message, Some, SoundThings, SoundView, View, get, ◌≡◌, ℕ}
+use Rattle.rk_inv_base.proofs.Words.{CoverOf, Message, Some, SoundTablet, SoundThings, SoundView, View, get, tablet_seen, ◌≡◌, ℕ}
 use Rattle.rk_inv_base.proofs.views.ByRows.{each_row, view_by_rows}
 use Rattle.rk_inv_base.proofs.wire.Wire.{each_may_be_sent}
+
+-- each tablet of a master of a sound view
+pub tablet_of : (v : View) → SoundView v → (q tablet : ℕ) → SoundTablet v q tablet (tablet_seen v q tablet)
+tablet_of v sound q tablet = record {
+  kept = sound.terms.kept q tablet;
+  begun = sound.terms.begun q tablet;
+  apart = sound.terms.apart q tablet;
+  unknown = sound.cover.unknown q tablet;
+  ranges = sound.cover.ranges q tablet;
+  has_row = sound.roles.known q tablet;
+  known = sound.calls.known q tablet;
+  bare = sound.receives.bare q tablet;
+}
 
 pub things_of_parts : (v : View) → SoundView v → SoundThings v
 things_of_parts v sound = record {
   rows = each_row v sound;
   masters = λ q. record {
-    tablets = λ tablet. record {
-      kept = sound.terms.kept q tablet;
-      begun = sound.terms.begun q tablet;
-      apart = sound.terms.apart q tablet;
-      unknown = sound.cover.unknown q tablet;
-      ranges = sound.cover.ranges q tablet;
-      has_row = sound.roles.known q tablet;
-      known = sound.calls.known q tablet;
-      bare = sound.receives.bare q tablet;
-    };
+    tablets = tablet_of v sound q;
     numbered = sound.nodes.numbered q;
     known_backups = sound.nodes.known q;
     left = sound.nodes.left q;

@@ -1,45 +1,25 @@
 -- What the invariant says of a row depends on what masters have of the row's tablet alone: where that is the same, it holds as it did.
-use Rattle.rk_inv_base.proofs.Words.{arith, ◌≡◌, ℕ, List, [], ◌∷◌, eqb, refl, sym, subst, ⊎_elim, All, Contains, Ended, Member, Node}
-use Rattle.rk_inv_base.proofs.Words.{Completions, Handover, lineage_of, Phase, Rebuilding, Row, Body, Gather, second_of, Pulling, handed_by}
-use Rattle.rk_inv_base.proofs.Words.{handed_for_grant, is_waiting, is_waiting_at, HandedFits, MembersFit, RowIsRebuilt, View, truths}
-use Rattle.rk_inv_base.proofs.Words.{SoundView, cases_eq, SaysIn, SoundRow}
-use Rattle.rk_inv_base.proofs.rows.Apart.{same_number}
-use Rattle.rk_inv_base.proofs.views.ByRows.{row_in}
-use Rattle.rk_inv_base.proofs.views.Lists.{all_by}
+use Rattle.rk_inv_base.proofs.Words.{arith, ◌≡◌, ℕ, List, [], ◌∷◌, eqb, refl, sym, subst, Member, Node, lineage_of, Phase}
+use Rattle.rk_inv_base.proofs.Words.{Rebuilding, Row, Body, second_of, handed_by, Tablet, tablet_seen, handed_for_grant, is_waiting}
+use Rattle.rk_inv_base.proofs.Words.{is_waiting_at, HandedFits, MembersFit, RowIsRebuilt, View, truths, SaysIn, SoundRow}
 
--- what is seen of a tablet at a master
-pub record SeenTablet : Type 0 where
-  pub handover : Handover
-  pub completions : Completions
-  pub pulling : Pulling
-  pub gather : Gather
-  pub merged : List Ended
-
--- what is seen of a tablet, master by master
-abbrev pub seen_at : View → ℕ → ℕ → SeenTablet
-seen_at v number q = record {
-  handover = v.handovers q number;
-  completions = v.completions q number;
-  pulling = v.pullings q number;
-  gather = v.gathers q number;
-  merged = v.merged q number;
+-- the view in which masters have this of tablets
+abbrev pub with_tablets : View → (ℕ → ℕ → Tablet) → View
+with_tablets v tablets = record v {
+  handovers = λ q n. (tablets q n).handover;
+  completions = λ q n. (tablets q n).completions;
+  pullings = λ q n. (tablets q n).pulling;
+  gathers = λ q n. (tablets q n).gather;
+  merged = λ q n. (tablets q n).merged_ends;
 }
 
 -- a view of no rows, in which each master has this of every tablet
-abbrev pub alone : View → (ℕ → SeenTablet) → View
-alone v seen = record v {
-  rows = [];
-  noticed = [];
-  handovers = λ q n. (seen q).handover;
-  completions = λ q n. (seen q).completions;
-  pullings = λ q n. (seen q).pulling;
-  gathers = λ q n. (seen q).gather;
-  merged = λ q n. (seen q).merged;
-}
+abbrev pub alone : View → (ℕ → Tablet) → View
+alone v tablets = with_tablets (record v { rows = []; noticed = [] }) (λ q n. tablets q)
 
 module _ (v : View) (row : Row) where
   abbrev own : View
-  own = alone v (seen_at v row.tablet)
+  own = alone v (λ q. tablet_seen v q row.tablet)
 
   granted_own : handed_for_grant row v.handovers v.handed ≡ handed_for_grant row own.handovers v.handed
   granted_own = grind (arith, is_waiting, second_of, lineage_of)
@@ -69,19 +49,8 @@ module _ (v : View) (row : Row) where
   of_own was = grind (arith, granted_own, handed_own, members_own, lineage_of, fits_own, rebuilt_own, says_own)
 
 -- two views are the same but for their rows and what masters have of tablets, and of the row's tablet each master has the same
-pub row_kept : (v now : View) (row : Row) → ((seen : ℕ → SeenTablet) → alone v seen ≡ alone now seen) → ((q : ℕ) → seen_at v row.tablet q ≡ seen_at now row.tablet q) → SoundRow v row → SoundRow now row
+pub row_kept : (v now : View) (row : Row) → ((tablets : ℕ → Tablet) → alone v tablets ≡ alone now tablets) → ((q : ℕ) → tablet_seen now q row.tablet ≡ tablet_seen v q row.tablet) → SoundRow v row → SoundRow now row
 row_kept v now row same_beside same was =
     of_own now row
-    (subst (λ (x : View). SoundRow x row) (same_beside (seen_at now row.tablet))
-    (subst (λ (seen : ℕ → SeenTablet). SoundRow (alone v seen) row) (λ i q. same q i) (to_own v row was)))
-
--- of each row holds what is said of rows, where it holds of one and masters have of each other tablet what they had
-pub rows_but_one : (v now : View) (row : Row) → SoundView v → Contains v.rows row → ((seen : ℕ → SeenTablet) → alone v seen ≡ alone now seen) → ((q number : ℕ) → (number ≡ row.tablet → ⊥) → seen_at v number q ≡ seen_at now number q) → SoundRow now row → All (SoundRow now) v.rows
-rows_but_one v now row sound has same_beside same here =
-    all_by (SoundRow now) v.rows
-    (λ x stands.
-    ⊎_elim
-    (λ (its : x.tablet ≡ row.tablet). subst (SoundRow now) (sym (same_number v.rows x row sound.rows.apart stands has its)) here)
-    (λ (apart : x.tablet ≡ row.tablet → ⊥).
-    row_kept v now x same_beside (λ q. same q x.tablet apart) (row_in v sound x stands))
-    (cases_eq x.tablet row.tablet))
+    (subst (λ (x : View). SoundRow x row) (same_beside (λ q. tablet_seen now q row.tablet))
+    (subst (λ (tablets : ℕ → Tablet). SoundRow (alone v tablets) row) (λ i q. sym (same q) i) (to_own v row was)))

@@ -1,6 +1,6 @@
 -- A sound and well formed lane stays sound when a tablet is added, when one begins to move or is split, and when crashes are noticed.
-use Rattle.std.proofs.Common.{All, Bool, Contains, IfSome, List, None, Option, Some, [], ap, arith, eq-eqb, filter, fold, map, not, refl}
-use Rattle.std.proofs.Common.{subst, suc, true, unwrap_or, zero, ℕ, ◌&&◌, ◌++◌, ◌+◌, ◌==◌, ◌∷◌, ◌≡◌, ◌≤◌, sym, ◌∙◌}
+use Rattle.std.proofs.Common.{All, Bool, Contains, List, None, Option, Some, [], ap, arith, eq-eqb, filter, fold, map, not, refl, subst}
+use Rattle.std.proofs.Common.{suc, true, unwrap_or, zero, ℕ, ◌&&◌, ◌++◌, ◌+◌, ◌==◌, ◌∷◌, ◌≡◌, ◌≤◌, sym, ◌∙◌}
 use Rattle.rk_world.specs.Migrations.{migrate_fault_by, migrate_fault_of}
 use Rattle.rk_world.specs.Notices.{is_named}
 use Rattle.rk_world.specs.Splits.{tablet_split, tablet_split_fault_by, tablet_split_fault_of}
@@ -8,17 +8,16 @@ use Rattle.rk_world.specs.declared.error.MoveError.TheVariants as moves
 use Rattle.rk_world.specs.declared.error.StepError.TheVariants as errors
 use Rattle.rk_world.specs.declared.event.Event.TheVariants as events
 use Rattle.rk_inv_base.proofs.Words.{All-append, All-cons, All-contains, All-filter, All-head, All-map, All-nil, All-tail, All-weaker}
-use Rattle.rk_inv_base.proofs.Words.{Coordinator, EachIn, Entry, HasSome, IsFormedEntry, IsFormedMaster, IsFormedRow, IsMaster, IsSound}
-use Rattle.rk_inv_base.proofs.Words.{IsWellFormed, Limits, Master, MayHappen, Owned, Phase, Range, Row, Tablet, World, coordinator_notice}
-use Rattle.rk_inv_base.proofs.Words.{crashed_masters, get, has_crashed, is_noticed, limits_of, master_at, migrating, new_master, new_row}
-use Rattle.rk_inv_base.proofs.Words.{no_tablet, notice_one, notice_order, number_of, phase_noticed, range_in, range_with_len, refusal}
-use Rattle.rk_inv_base.proofs.Words.{row_migrated, row_noticed, row_of, tablet_at, tablet_in, tablet_migrated, view, where_true}
-use Rattle.rk_inv_base.proofs.Words.{with_coordinator, IsInOrder, cond-true}
+use Rattle.rk_inv_base.proofs.Words.{Coordinator, HasSome, IsFormedMaster, IsFormedRow, IsMaster, IsSound, IsWellFormed, Master, MayHappen}
+use Rattle.rk_inv_base.proofs.Words.{Owned, Phase, Range, Row, Tablet, World, coordinator_notice, crashed_masters, get, has_crashed}
+use Rattle.rk_inv_base.proofs.Words.{is_noticed, limits_of, master_at, migrating, new_master, new_row, no_tablet, notice_one, notice_order}
+use Rattle.rk_inv_base.proofs.Words.{number_of, phase_noticed, range_with_len, refusal, row_migrated, row_noticed, row_of, tablet_at}
+use Rattle.rk_inv_base.proofs.Words.{tablet_in, tablet_migrated, view, where_true, with_coordinator, IsInOrder, cond-true}
 use Rattle.rk_inv_base.proofs.Headlines.{sound_crash_noticed, sound_migrated, sound_added}
 use Rattle.rk_inv_wellformed.proofs.lanes.Events.{has_no_fault, no_inner, no_second}
 use Rattle.rk_inv_rows.proofs.Headlines.{sound_split}
-use Rattle.rk_inv_events.proofs.Words.{HasSomeIn, MayAdd, MayNotice, all_by, crash_noticed_in, filter_from, found_stands, kept_passes}
-use Rattle.rk_inv_events.proofs.Words.{tablet_added, by_found}
+use Rattle.rk_inv_events.proofs.Words.{MayAdd, MayNotice, all_by, crash_noticed_in, filter_from, found_stands, kept_passes, tablet_added}
+use Rattle.rk_inv_events.proofs.Words.{by_found}
 
 -- ---- ranges of a well formed lane are not empty
 

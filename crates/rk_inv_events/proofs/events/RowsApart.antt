@@ -2,8 +2,7 @@
 use Rattle.std.proofs.Common.{Contains, List, Some, [], ap, arith, eq-eqb, false, is_some, refl, true, ℕ, ⊎_elim, ◌==◌, ◌∙◌, ◌∷◌, ◌≡◌, ◌≢◌}
 use Rattle.rk_inv_base.proofs.Words.{IsBelowOthers, IsWithinRows, IsWithinTerm, Row, SoundView, View, has, list_any_at, meets, number_of}
 use Rattle.rk_inv_base.proofs.Words.{order, row_of, cond_both}
-use Rattle.rk_inv_base.proofs.logs.MarkedApart.{apart_either}
-use Rattle.rk_inv_base.proofs.rows.Apart.{same_number}
+use Rattle.rk_inv_base.proofs.rows.Apart.{apart_either, same_number}
 use Rattle.rk_inv_events.proofs.Words.{contains_cases, found_stands, one_precedes, by_found}
 
 -- ---- the row of a tablet

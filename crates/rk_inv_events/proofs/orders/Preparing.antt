@@ -8,10 +8,10 @@ use Rattle.rk_types.specs.declared.node.Node.TheVariants as nodes
 use Rattle.rk_inv_base.proofs.Words.{AsksFor, Handover, IsBelowOthers, IsSound, Master, MaySend, Message, Prepare, PrepareFits, Range, Role}
 use Rattle.rk_inv_base.proofs.Words.{Row, SentFits, Tablet, View, Worked, World, changed, cond_both, has_crashed, is_greater, is_member}
 use Rattle.rk_inv_base.proofs.Words.{lineage_of, log_in, master_at, meets, preparing, ready, ready_again, sending, tablet_prepared}
-use Rattle.rk_inv_base.proofs.Words.{to_master, view, with_handover, without_merged, worked_at}
+use Rattle.rk_inv_base.proofs.Words.{tablet_seen, to_master, view, with_handover, without_merged, worked_at}
 use Rattle.rk_inv_tablets.proofs.Headlines.{sound_prepared}
 use Rattle.rk_inv_tablets.proofs.ready.Prepared.{view_prepared, view_prepared_in}
-use Rattle.rk_inv_tablets.specs.ready.Small.{as_wanting, others_given_up, prepared, prepared_tablets, tablet_seen}
+use Rattle.rk_inv_tablets.specs.ready.Small.{as_wanting, others_given_up, prepared, prepared_tablets}
 use Rattle.rk_inv_events.proofs.Words.{MayPrepare, all_by, put_here, row_in, row_ranged, row_said}
 use Rattle.rk_inv_events.proofs.events.RowsApart.{HasRow, has_row}
 use Rattle.rk_inv_events.proofs.events.Working.{sound_sending, stays, stays_sending, taken}

@@ -7,11 +7,11 @@ use Rattle.rk_world.specs.Gather.{unread}
 use Rattle.rk_inv_base.proofs.Words.{All-nil, Gathered, Handover, HasLineage, HasRoom, IsRebuiltBy, IsSound, IsWellFormed}
 use Rattle.rk_inv_base.proofs.Words.{LAST_MAIN_SEGMENT, Master, Member, Message, Phase, Rebuild, RebuildFits, Rebuilding, Row, Tablet, View}
 use Rattle.rk_inv_base.proofs.Words.{Worked, World, beginning, changed, cond_both, has_crashed, is_gathering, is_greater, master_at}
-use Rattle.rk_inv_base.proofs.Words.{next_reading, own_member, rebuild_begun, rebuild_taken, tablet_at, to_master, view, worked_at}
+use Rattle.rk_inv_base.proofs.Words.{next_reading, own_member, rebuild_begun, rebuild_taken, tablet_at, tablet_seen, to_master, view, worked_at}
 use Rattle.rk_inv_tablets.proofs.merge.RebuildMerged.{sound_merged}
 use Rattle.rk_inv_tablets.proofs.Headlines.{sound_begun}
 use Rattle.rk_inv_tablets.proofs.ready.Begun.{view_begun_in}
-use Rattle.rk_inv_tablets.specs.ready.Small.{as_begun, begins_from, begun, begun_tablets, others_given_up, rebuild_begun_in, tablet_seen}
+use Rattle.rk_inv_tablets.specs.ready.Small.{as_begun, begins_from, begun, begun_tablets, others_given_up, rebuild_begun_in}
 use Rattle.rk_inv_events.proofs.Words.{AreReadable, MayBegin, MayMergeFormed, master_same, put_here, rebuild_merged_in, row_said}
 use Rattle.rk_inv_events.proofs.events.Coordinating.{rows_some}
 use Rattle.rk_inv_events.proofs.events.Crashing.{readable}

@@ -5,7 +5,8 @@ use Rattle.rk_tablet_map.specs.Phase.{member as member_at}
 use Rattle.rk_inv_base.proofs.Words.{All-contains, Entry, HasSome, Mark, MarkFits, Row, SoundView, View, Written, and_from, applied_entries}
 use Rattle.rk_inv_base.proofs.Words.{applied_from, counting, false≢true, is_mark_of, is_marked, member_truth, named, named_by, side_entries}
 use Rattle.rk_inv_base.proofs.Words.{unmarked, with_number}
-use Rattle.rk_inv_base.proofs.logs.MarkedApart.{apart_either, place_of}
+use Rattle.rk_inv_base.proofs.logs.MarkedApart.{place_of}
+use Rattle.rk_inv_base.proofs.rows.Apart.{apart_either}
 use Rattle.rk_inv_rows.proofs.lineage.FewerMarks.{AreFewer, IsSilent, free_counts, free_names}
 use Rattle.rk_inv_rows.proofs.lineage.MarksTaken.{apart, silent_apart}
 use Rattle.rk_inv_events.proofs.Words.{IsCovered, covered_by, covered_of, filter_from, kept_passes, marks_taken, row_in, taken_from}

@@ -62,8 +62,6 @@ caught_event w event called caught = each_kept {P = λ number. IsCaughtUp} {w = 
   splits = λ master tablet at new term. split_caught (master_at w master) tablet at new term (caught master);
 }) called
 
--- ---- new lanes
-
 -- ---- lanes with room
 
 -- a master of a lane that is well formed and has room: there is a backup, and the main segments are few

@@ -14,5 +14,3 @@ each_fails a b c d is = grind (arith, or_parts)
 -- where a test finds nothing, each element fails it
 pub none_passes : {X : Type 0} (test : X → Bool) (xs : List X) → find test xs ≡ None → All (λ x. test x ≡ false) xs
 none_passes test xs none = all_by (λ x. test x ≡ false) xs (none_of test xs none)
-
--- ---- terms

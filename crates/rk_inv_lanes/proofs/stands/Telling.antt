@@ -41,5 +41,3 @@ module _ (P : ℕ → NumberMap Segments → Type 0) (stores : GoesOnStored P) (
       (λ none. event_covered (covers event called)) (λ error is. holds)
   goes_on (Asks session) = ask_covered Holds w session holds (λ call turned out. holds)
   goes_on (Accepts number session) = accept_covered Holds w session holds number (λ body. holds)
-
--- ---- both

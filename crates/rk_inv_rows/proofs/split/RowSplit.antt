@@ -9,7 +9,7 @@ use Rattle.rk_inv_base.proofs.Words.{tenure_in, View, false_from_ne_true, cases_
 use Rattle.rk_inv_base.proofs.Words.{Member, ends_of, is_serving, lineage_of, Owned, Rebuilding, last_of, touches, is_joined_in, is_idle}
 use Rattle.rk_inv_base.proofs.Words.{may_have_staged, Written, member_truth, IsKnown, IsStagedEnd, ReachAll, IsNext, speaks, OnlyIsUnnamed}
 use Rattle.rk_inv_base.proofs.Words.{Waits, IsTableOf, has_all_items, truths, rests, is_covered, Message, get, Post, HasOwnRange, MarkFits}
-use Rattle.rk_inv_base.proofs.Words.{SoundView, Cover}
+use Rattle.rk_inv_base.proofs.Words.{SoundView, Cover, tablet_seen}
 use Rattle.rk_inv_base.proofs.rows.RowAdded.{meets_turned}
 use Rattle.rk_inv_rows.proofs.Words.{covered_by, IsHalf, all_by, same_number, waits_for, none_for_owned, row_in, IsNextOf, SoundBeside}
 use Rattle.rk_inv_rows.proofs.Words.{SoundRow, view_by_rows, as_half, bystander_stays}
@@ -21,7 +21,7 @@ use Rattle.rk_inv_rows.proofs.split.Splitting.{other_stands, of_row, by_row, Cou
 use Rattle.rk_inv_rows.proofs.split.HalfOfRow.{all_of_half, in_whole, meets_whole, filter_finer, table_of_half, low_of_half, next_of_half}
 use Rattle.rk_inv_rows.proofs.split.HalfOfRow.{order_of_half, reached_of_half, recorded_of_half, rest_of_half, truth_of_half}
 use Rattle.rk_inv_base.proofs.calls.Receives.{IsBareOf}
-use Rattle.rk_inv_base.proofs.views.OwnTablet.{row_kept, seen_at}
+use Rattle.rk_inv_base.proofs.views.OwnTablet.{row_kept}
 use Rattle.rk_inv_rows.proofs.split.HalvedMessages.{SpokeOf, no_mark, says_half}
 use Rattle.rk_inv_base.proofs.views.ByRows.{staged_as}
 use Rattle.rk_entry.specs.declared.entry.Entry.TheVariants as entries
@@ -199,8 +199,6 @@ module _ (v : View) (cut : Splitting v) (after : Halved v cut) where
 
   pub row_known : (q n : ℕ) → v.live q ≡ true → is_absent (handovers' q n).role ≡ false → is_some (row_of (rows' v cut) n) ≡ true
   row_known q n lives = grind (arith, by, is_absent, row_of, rows', known_on, known_low, known_new)
-
-  -- ---- counters, what is staged, and calls
 
   -- ---- counters
 
@@ -444,15 +442,15 @@ module _ (v : View) (cut : Splitting v) (after : Halved v cut) where
   other_holds : (x : Row) → Contains v.rows x → (x.tablet ≡ tablet → ⊥) → SoundRow now x
   other_holds x has unlike = row_kept v now x (λ seen. refl) same (row_in v sound x has)
     where
-      same : (q : ℕ) → seen_at v x.tablet q ≡ seen_at now x.tablet q
+      same : (q : ℕ) → tablet_seen now q x.tablet ≡ tablet_seen v q x.tablet
       same q i =
           let away = apart_of v cut x has unlike q in
           record {
-            handover = of_row v cut after x has unlike q i;
-            completions = sym (completions_away q x.tablet away) i;
-            pulling = sym (pullings_away q x.tablet away) i;
-            gather = sym (gathers_away q x.tablet away) i;
-            merged = sym (merged_away q x.tablet away) i;
+            handover = sym (of_row v cut after x has unlike q) i;
+            completions = completions_away q x.tablet away i;
+            pulling = pullings_away q x.tablet away i;
+            gather = gathers_away q x.tablet away i;
+            merged_ends = merged_away q x.tablet away i;
           }
 
   beside : SoundBeside now

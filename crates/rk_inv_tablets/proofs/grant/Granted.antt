@@ -1,7 +1,7 @@
 -- A lane stays sound when a target that waits for a row's tablet is granted it: it speaks for the row from now on, by what its source told,
 -- begins to pull, and does not rebuild the row yet.
 use Rattle.std.proofs.Common.{◌≡◌, ℕ, ◌⊎◌, Bool, true, false, eqb, List, [], ◌∷◌, ◌++◌, Some, None, refl, sym, ap, ◌∙◌, subst, ⊎_elim, inl}
-use Rattle.std.proofs.Common.{arith, IfSome, All, Contains, zero, suc, ◌≤◌, length, drop, take, ◌<◌, append-nil, ◌≢◌}
+use Rattle.std.proofs.Common.{arith, IfSome, All, Contains, zero, suc, ◌≤◌, length, drop, take, ◌<◌, append-nil}
 use Rattle.rk_inv_base.proofs.Words.{cond-false, cond-true, flat_map-append, All-weaker, Contains-append_left, get, Ended, Member, Carried}
 use Rattle.rk_inv_base.proofs.Words.{Entry, completions_from, ends_of, Handover, lineage_of, Row, Body, Handed, told, told_by, second_of}
 use Rattle.rk_inv_base.proofs.Words.{AreHandedOver, IsKnown, IsStagedEnd, ReachAll, IsNext, handed_by, handed_for_grant, is_waiting}
@@ -10,22 +10,20 @@ use Rattle.rk_inv_base.proofs.Words.{or_from, or_parts, drop-append-le, take-app
 use Rattle.rk_inv_base.proofs.Words.{list_any, Held, Range, is_in, Grant, items_of, carried_entry, touches, counts, is_joined_in, Tablet}
 use Rattle.rk_inv_base.proofs.Words.{pulling_from, Written, member_material, member_truth, HandedFits, HasArrived, IsBare, IsReceived}
 use Rattle.rk_inv_base.proofs.Words.{IsTarget, MembersFit, NamedFit, entries_from, named_items, scan_items, with_one_more, Phase}
-use Rattle.rk_inv_base.proofs.Words.{Rebuilding, Mark, HasOwnRange, MarkFits, RowIsRebuilt, has_merged, meets, is_member, Master}
-use Rattle.rk_inv_base.proofs.Words.{with_appended, is_absent, without_merged, World, master_at, tablet_in, RoleFits, HandoverFits, view}
-use Rattle.rk_inv_base.proofs.Words.{CoverOf, SoundView, target_truth, items_in, is_idle, may_have_staged, IsSettledIn, AreAbove, EachIn}
-use Rattle.rk_inv_base.proofs.Words.{IsRest, IsWithinRows, Message, row_of, none_stands}
-use Rattle.rk_inv_tablets.proofs.Words.{calls_more, speaker_is, CountsFor, SpeaksFor, named_stays, joined_same, AreBelow, own_push}
+use Rattle.rk_inv_base.proofs.Words.{Rebuilding, Mark, HasOwnRange, MarkFits, RowIsRebuilt, has_merged, is_member, Master, with_appended}
+use Rattle.rk_inv_base.proofs.Words.{without_merged, World, master_at, tablet_in, RoleFits, view, SoundView, target_truth, items_in}
+use Rattle.rk_inv_base.proofs.Words.{is_idle, IsSettledIn, AreAbove, EachIn, IsRest, Message, none_stands}
+use Rattle.rk_inv_tablets.proofs.Words.{tablet_seen, calls_more, speaker_is, CountsFor, SpeaksFor, named_stays, joined_same, AreBelow, own_push}
 use Rattle.rk_inv_tablets.proofs.Words.{as_granted, applied_within, joins_beside, IsRebuilderIn, all_by, view_by_rows, SoundRow}
 use Rattle.rk_inv_tablets.proofs.Words.{SoundBeside, put_same, view_master, tablet_apart, tablet_here, terms_look, granted}
 use Rattle.rk_inv_tablets.proofs.Words.{tablet_granted_in, IsBareOf, IsNextOf}
 use Rattle.rk_inv_tablets.proofs.grant.Ends.{carried_next, rising_noted, carried_rest}
 use Rattle.rk_inv_tablets.proofs.grant.Granting.{Granting, entry, master, now, of_handover, old, rest_here, taker, row_was, grow, tablet}
 use Rattle.rk_inv_tablets.proofs.grant.Granting.{turned, bare, of_written, ranged, same_term, settled, target_placed, waits, applied_same}
-use Rattle.rk_inv_tablets.proofs.grant.Granting.{by_role, seen_same}
-use Rattle.rk_inv_tablets.proofs.grow.Turned.{of_tablet, seen_apart}
+use Rattle.rk_inv_base.proofs.views.Turned.{of_tablet}
 use Rattle.rk_inv_tablets.proofs.grow.Grown.{truth_same, rests_same, row_cases, material_other, some, SameFirst, rebuilds_other}
-use Rattle.rk_inv_tablets.proofs.grow.Grown.{marked_more, target_same, placed_more, done_more, says_more, cover_more, found_more, bare_more}
-use Rattle.rk_inv_tablets.proofs.grow.Grown.{rows_more, truths_same, unnamed_more, items_more, known_more, waiting_more}
+use Rattle.rk_inv_tablets.proofs.grow.Grown.{marked_more, target_same, placed_more, done_more, says_more, bare_more, SpansAs, beside_more}
+use Rattle.rk_inv_tablets.proofs.grow.Grown.{rows_more, truths_same, unnamed_more, items_more}
 use Rattle.rk_table.proofs.Tokens.{passed_first}
 use Rattle.rk_world.specs.Handovers.{tablet_granted}
 use Rattle.rk_inv_tablets.proofs.grant.GrantedMessages.{says_here}
@@ -301,13 +299,6 @@ module _ (v : View) (a : Granting v) where
 
   -- ---- the whole
 
-  -- a tablet is absent, and has its range, as before
-  absent_same : (q r : ℕ) → is_absent ((now v a).handovers q r).role ≡ is_absent (v.handovers q r).role
-  absent_same = by_role v a is_absent refl
-
-  range_same : (q r : ℕ) → ((now v a).handovers q r).range ≡ (v.handovers q r).range
-  range_same = seen_same v a (λ h. h.range) (λ h is. refl)
-
   truths_now : truths (now v a) a.row ≡ truths v a.row
   truths_now = truths_same v (grow v a) a.row
 
@@ -374,44 +365,23 @@ module _ (v : View) (a : Granting v) where
 
   -- ---- beside rows
 
-  cover : CoverOf (now v a)
-  cover =
-      let more = cover_more v (grow v a) in
-      let ranges : (q r : ℕ) → 1 ≤ ((now v a).handovers q r).term → IsWithinRows v.rows ((now v a).handovers q r).range = λ q r begun.
-      rw (range_same q r) (more.ranges q r (rw (← same_term v a q r) begun)) in
-      assumption (more, λ (q r : ℕ) (none : row_of v.rows r ≡ None). same_term v a q r ∙ more.unknown q r none)
+  spans : (q r : ℕ) → SpansAs (v.handovers q r) ((now v a).handovers q r)
+  spans q r =
+      of_handover v a (SpansAs (v.handovers q r)) q r
+      (λ at its. record { term = refl; range = refl; absent = rw (waits v a q r at its) refl; stages = λ _. refl })
+      (λ apart. record { term = refl; range = refl; absent = refl; stages = λ staged. staged })
 
   beside : SoundBeside (now v a)
   beside =
-      let kept : (q r : ℕ) → All (λ x. HandoverFits x r ((now v a).handovers q r)) v.rows = λ q r.
-      of_handover v a (λ h. All (λ x. HandoverFits x r h) v.rows) q r
-      (λ at its k d within. let fits = a.sound.terms.kept q r k d within in assumption) (λ apart. a.sound.terms.kept q r) in
-      let begun : (q r : ℕ) → is_absent ((now v a).handovers q r).role ≡ false → 1 ≤ ((now v a).handovers q r).term = λ q r there.
-      rw (same_term v a q r) (a.sound.terms.begun q r (sym (absent_same q r) ∙ there)) in
-      let apart : (q i j : ℕ) → i ≢ j → is_absent ((now v a).handovers q i).role ≡ false → is_absent ((now v a).handovers q j).role ≡ false → meets ((now v a).handovers q i).range ((now v a).handovers q j).range ≡ false = λ q i j other i_there j_there.
-      (λ k. meets (range_same q i k) (range_same q j k))
-      ∙ a.sound.terms.apart q i j other (sym (absent_same q i) ∙ i_there) (sym (absent_same q j) ∙ j_there) in
-      assumption (
-        a.sound,
-        cover,
-        known_on,
-        (grow v a).logs_are,
-        known_more v (grow v a),
-        found_more v (grow v a),
-        λ (q r : ℕ) (lives : v.live q ≡ true) (there : is_absent ((now v a).handovers q r).role ≡ false).
-            a.sound.roles.known q r lives (sym (absent_same q r) ∙ there),
-        waiting_more v (grow v a) (now v a).handovers
-            (λ q r staged. of_handover v a (λ h. may_have_staged h.role ≡ true) q r (λ at its. refl) (λ apart. staged)),
-        λ (q r : ℕ).
-            of_handover v a (λ h. IsBareOf h (written q) (v.records q)) q r (λ at its. tt)
-            (λ apart. bare_more v (grow v a) q r apart (a.sound.receives.bare q r)),
-      )
+      beside_more v (grow v a) (tablet_seen (now v a)) spans known_on
+      (λ q r.
+      of_handover v a (λ h. IsBareOf h (written q) (v.records q)) q r (λ at its. tt)
+      (λ apart. bare_more v (grow v a) q r apart (a.sound.receives.bare q r)))
 
   pub view_granted : SoundView (now v a)
   view_granted =
       view_by_rows (now v a) beside
-      (rows_more v (grow v a) (now v a) (λ seen. refl)
-      (seen_apart v (now v a) (master v a) a.row.tablet (tablet v a) (turned v a)) here)
+      (rows_more v (grow v a) (now v a) (tablet v a) (λ tablets. refl) (turned v a) here)
 
 -- what the change makes of a view
 pub granted_is : (w : World) (master : ℕ) (grant : Grant) → view (tablet_granted_in w master grant) ≡ granted (view w) master grant.tenure.tablet grant

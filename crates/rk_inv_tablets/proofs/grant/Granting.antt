@@ -9,7 +9,7 @@ use Rattle.rk_inv_base.proofs.Words.{is_opening, Post, bond_of, post_of, rebuild
 use Rattle.rk_inv_tablets.proofs.Words.{put_by, put2_by, put2_here, put2_other, put_other, applied_within, last_member, rest_inside}
 use Rattle.rk_inv_tablets.proofs.Words.{MayGrantFormed, as_granted, granted, row_in, SoundRow, logs_grown, none_stored, stored_push}
 use Rattle.rk_inv_tablets.proofs.Words.{needed_grown, speaker_of, has_itself}
-use Rattle.rk_inv_tablets.proofs.grow.Turned.{IsTurned}
+use Rattle.rk_inv_base.proofs.views.Turned.{IsTurned}
 use Rattle.rk_inv_tablets.proofs.grow.Grown.{Growing}
 use Rattle.rk_inv_tablets.proofs.grow.MoreLog.{more_itself, HasMore, more_one}
 use Rattle.rk_inv_tablets.proofs.ready.Outside.{second_member, last_post}

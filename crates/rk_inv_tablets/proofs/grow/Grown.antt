@@ -13,17 +13,31 @@ use Rattle.rk_inv_base.proofs.Words.{HasOwnRange, IsOfRange, IsPieceOf, IsRebuil
 use Rattle.rk_inv_base.proofs.Words.{READ_BACKUP, RowIsRebuilt, marked_entries, member_marked, member_stored, merged_place, stored_count}
 use Rattle.rk_inv_base.proofs.Words.{IsBare, MembersFit, NamedFit, FirstIsDone, EachHasCall, OnlyIsUnnamed, Waits, IsPlaced, IsEntryWithin}
 use Rattle.rk_inv_base.proofs.Words.{IsOfWholeRows, View, truths, rests, SoundView, CoverOf, LogsOf, slice_get_front, joined_from}
-use Rattle.rk_inv_base.proofs.Words.{Completions, Gather, Ended, take-append-le, get, slice_get_within, false_from_ne_true, EachIn}
+use Rattle.rk_inv_base.proofs.Words.{Completions, Gather, Ended, Tablet, take-append-le, get, slice_get_within, false_from_ne_true, EachIn}
 use Rattle.rk_inv_base.proofs.Words.{HasItems, IsMaster, IsMergedOf, Message, has_all_items, is_idle, post_of, as_entries, closing_carried}
 use Rattle.rk_inv_tablets.proofs.Words.{member as member_at, truth_by, truth_is, piece_push, IsRebuilderIn, former_gone, mark_same}
 use Rattle.rk_inv_tablets.proofs.Words.{IsBareOf, waits_then, applied_within, Extends, extends_behind, tells_extended, rows_apart}
 use Rattle.rk_inv_tablets.proofs.Words.{same_number, meets_either, stands_found, target_truth_same, SaysIn, SoundRow, row_in, covered_by}
-use Rattle.rk_inv_tablets.proofs.Words.{all_by, needed_member, part_weaker, rebuilder_weaker, SeenTablet, alone, row_kept, seen_at}
+use Rattle.rk_inv_tablets.proofs.Words.{all_by, needed_member, part_weaker, rebuilder_weaker, alone, row_kept, SoundBeside}
+use Rattle.rk_inv_base.proofs.views.OwnTablet.{with_tablets}
+use Rattle.rk_inv_base.proofs.views.Turned.{IsTurned}
+use Rattle.rk_inv_base.proofs.Words.{HandoverFits, IsWithinRows, None, IsKnown, IsStagedEnd, ends_of, ◌≢◌}
 use Rattle.rk_inv_tablets.proofs.Words.{by_master, if_master, CountsFor, IsNextOf, SpeaksFor, all_items_same, has_itself}
 use Rattle.rk_inv_tablets.proofs.grow.MoreLog.{HasMore, LeavesRange, joined_more, leaves_more, target_leaves, touched_more}
 use Rattle.rk_inv_tablets.proofs.grow.MoreLog.{waits_by, rest_by}
 use Rattle.rk_inv_tablets.proofs.merge.Pieces.{at_front}
 use Rattle.rk_entry.specs.declared.entry.Entry.TheVariants as entries
+
+-- a tablet has the term and range that it had, is absent as it was, and may have staged what it had
+pub record SpansAs (old new : Handover) : Type 0 where
+  pub term : new.term ≡ old.term
+  pub range : new.range ≡ old.range
+  pub absent : is_absent new.role ≡ is_absent old.role
+  pub stages : may_have_staged old.role ≡ true → may_have_staged new.role ≡ true
+
+-- so beside a row it fits as it did
+fits_as : (row : Row) (number : ℕ) (old new : Handover) → SpansAs old new → HandoverFits row number old → HandoverFits row number new
+fits_as row number old new spans fits = grind (arith, meets)
 
 -- these are logs, and this is written, where a living master that has a row's tablet appended to its log what is of the row's range
 pub record Growing (v : View) : Type 0 where
@@ -383,14 +397,14 @@ module _ (v : View) (grow : Growing v) where
         )
 
   -- of each row holds what is said of rows, where it holds of this one and masters have of each other tablet what they had
-  pub rows_more : (now : View) → ((seen : ℕ → SeenTablet) → alone grown seen ≡ alone now seen) → ((q number : ℕ) → (number ≡ row.tablet → ⊥) → seen_at grown number q ≡ seen_at now number q) → SoundRow now row → All (SoundRow now) v.rows
-  rows_more now same_beside same here =
+  pub rows_more : (now : View) (tablet : Tablet) → ((tablets : ℕ → Tablet) → alone grown tablets ≡ alone now tablets) → IsTurned v now master row.tablet tablet → SoundRow now row → All (SoundRow now) v.rows
+  rows_more now tablet same_beside turned here =
       all_by _ v.rows
       (λ x has.
       ⊎_elim
       (λ (its : x ≡ row). rw its here)
       (λ (apart : x.tablet ≡ row.tablet → ⊥).
-      row_kept grown now x same_beside (λ q. same q x.tablet apart) (row_more x has apart (row_in v grow.sound x has)))
+      row_kept grown now x same_beside (λ q. turned.apart q x.tablet (λ at its. apart its)) (row_more x has apart (row_in v grow.sound x has)))
       (row_cases x has))
 
   -- ---- beside rows
@@ -481,3 +495,34 @@ module _ (v : View) (grow : Growing v) where
       assumption (touched_more row h.range away (v.written q) (written q) more from bare.nothing)) was)
       (λ (away : q ≡ master → ⊥). rw (grow.others q away) was)
       (cases_eq q master)
+
+  -- beside rows all is sound, where each tablet spans what it did, and what masters have of ends and of records fits
+  pub beside_more : (tablets : ℕ → ℕ → Tablet) → ((q r : ℕ) → SpansAs (v.handovers q r) (tablets q r).handover) → ((q r : ℕ) → v.live q ≡ true → All (λ end. IsKnown v.base v.journal end ⊎ IsStagedEnd v.rows (rests grown) q r (tablets q r).handover.term end) (ends_of (tablets q r).completions)) → ((q r : ℕ) → IsBareOf (tablets q r).handover (written q) (v.records q)) → SoundBeside (with_tablets grown tablets)
+  beside_more tablets spans known bare =
+      let was = grow.sound in
+      let cover : CoverOf (with_tablets grown tablets) = assumption (
+        cover_more,
+        λ (q r : ℕ) (none : row_of v.rows r ≡ None). (spans q r).term ∙ cover_more.unknown q r none,
+        λ (q r : ℕ) (begun : 1 ≤ (tablets q r).handover.term).
+            subst (IsWithinRows v.rows) (sym (spans q r).range)
+            (cover_more.ranges q r (subst (λ (term : ℕ). 1 ≤ term) (spans q r).term begun)),
+      ) in
+      assumption (
+        was,
+        cover,
+        known,
+        bare,
+        grow.logs_are,
+        known_more,
+        found_more,
+        λ (q r k : ℕ) (d : Row) (within : k < length v.rows).
+            fits_as (slice_index_or v.rows k d) r (v.handovers q r) (tablets q r).handover (spans q r) (was.terms.kept q r k d within),
+        λ (q r : ℕ) (there : is_absent (tablets q r).handover.role ≡ false).
+            subst (λ (term : ℕ). 1 ≤ term) (sym (spans q r).term) (was.terms.begun q r (sym (spans q r).absent ∙ there)),
+        λ (q i j : ℕ) (other : i ≢ j) (i_there : is_absent (tablets q i).handover.role ≡ false) (j_there : is_absent (tablets q j).handover.role ≡ false).
+            (λ k. meets ((spans q i).range k) ((spans q j).range k))
+            ∙ was.terms.apart q i j other (sym (spans q i).absent ∙ i_there) (sym (spans q j).absent ∙ j_there),
+        λ (q r : ℕ) (lives : v.live q ≡ true) (there : is_absent (tablets q r).handover.role ≡ false).
+            was.roles.known q r lives (sym (spans q r).absent ∙ there),
+        waiting_more (λ q r. (tablets q r).handover) (λ q r. (spans q r).stages),
+      )

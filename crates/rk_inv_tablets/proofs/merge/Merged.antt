@@ -1,31 +1,30 @@
 -- A view stays sound when a rebuild merges what it gathered: its piece bears the only mark of the tablet there, its master does not speak for
 -- the row and is no target, and the ends that it keeps are told by the truth or the rest of the row.
 use Rattle.std.proofs.Common.{arith, ℕ, [], ◌∷◌, refl, ◌≡◌, zero, suc, ◌-◌, List, ◌++◌, filter, length, sym, ap, ◌∙◌, ⊎_elim, length-append}
-use Rattle.std.proofs.Common.{All, drop, take, flat_map, true, inr, ◌⊎◌, Some, inl, Contains, eq-eqb, IfSome, ◌≤◌, false}
-use Rattle.rk_inv_base.proofs.Words.{All-cons, All-head, Node, Body, Rebuilt, RebuiltIn, View, cases_eq, EachIn, All-nil}
-use Rattle.rk_inv_base.proofs.Words.{take-append-le, All-push, Contains-append_right, list_any, Range, Entry, is_in, completions_from}
-use Rattle.rk_inv_base.proofs.Words.{lineage_of, Phase, Rebuilding, known_of, items_of, Gather, by_member, touches, named, side_entries}
-use Rattle.rk_inv_base.proofs.Words.{merge, own_place, Written, Mark, stored_of, HasOwnRange, IsPieceOf, IsRebuilder, MarkFits, NeededOf}
-use Rattle.rk_inv_base.proofs.Words.{READ_BACKUP, RowIsRebuilt, named_items, truths, cond-true, false≢true, get, Member, is_member}
-use Rattle.rk_inv_base.proofs.Words.{member_material, member_truth, post_of, rebuilder_post, HandedFits, IsTarget, MembersFit, NamedFit}
-use Rattle.rk_inv_base.proofs.Words.{is_granted, All-contains, All-weaker, Ended, ends_of, is_serving, told, is_rebuilding, IsKnown}
-use Rattle.rk_inv_base.proofs.Words.{IsStagedEnd, ReachAll, IsNext, is_wanting, speaks, StillCounts, rests, CallsOf, Tablet, IfSome_then}
-use Rattle.rk_inv_base.proofs.Words.{SoundView, target_truth, handed_for_grant, handed_by, is_idle, may_have_staged, IsSettledIn}
-use Rattle.rk_inv_base.proofs.Words.{IsMergedOf, Message, is_absent, take_all}
-use Rattle.rk_inv_tablets.proofs.Words.{put2_other, by_master, messages_looks, SaysIn, member as member_at, put2_here, IsRebuilderIn}
-use Rattle.rk_inv_tablets.proofs.Words.{all_by, drop_all, with_piece, AreAlike, calls_alike, IsHeir, heir_post, IsToldIn, CountsFor}
-use Rattle.rk_inv_tablets.proofs.Words.{SpeaksFor, view_by_rows, SoundRow, SoundBeside, still_counts, handed_for_grant_alike}
-use Rattle.rk_inv_tablets.proofs.Words.{handed_by_alike, cover_looks, terms_looks, role_looks, terms_look, IsBareOf, IsNextOf}
-use Rattle.rk_inv_tablets.proofs.Words.{drop-append_seam}
+use Rattle.std.proofs.Common.{All, drop, take, flat_map, true, inr, ◌⊎◌, Some, inl, Contains, eq-eqb, IfSome, ◌≤◌}
+use Rattle.rk_inv_base.proofs.Words.{All-cons, All-head, Node, Body, Rebuilt, RebuiltIn, View, cases_eq, EachIn, All-nil, take-append-le}
+use Rattle.rk_inv_base.proofs.Words.{All-push, Contains-append_right, list_any, Range, Entry, is_in, completions_from, lineage_of, Phase}
+use Rattle.rk_inv_base.proofs.Words.{Rebuilding, known_of, items_of, Gather, by_member, touches, named, side_entries, merge, own_place}
+use Rattle.rk_inv_base.proofs.Words.{Written, Mark, stored_of, HasOwnRange, IsPieceOf, IsRebuilder, MarkFits, NeededOf, READ_BACKUP}
+use Rattle.rk_inv_base.proofs.Words.{RowIsRebuilt, named_items, truths, cond-true, false≢true, get, Member, is_member, member_material}
+use Rattle.rk_inv_base.proofs.Words.{member_truth, post_of, rebuilder_post, HandedFits, IsTarget, MembersFit, NamedFit, is_granted}
+use Rattle.rk_inv_base.proofs.Words.{All-contains, All-weaker, Ended, ends_of, is_serving, told, is_rebuilding, IsKnown, IsStagedEnd}
+use Rattle.rk_inv_base.proofs.Words.{ReachAll, IsNext, is_wanting, speaks, StillCounts, rests, CallsOf, Tablet, IfSome_then, SoundView}
+use Rattle.rk_inv_base.proofs.Words.{target_truth, handed_for_grant, handed_by, is_idle, may_have_staged, IsSettledIn, IsMergedOf, Message}
+use Rattle.rk_inv_base.proofs.Words.{take_all}
+use Rattle.rk_inv_tablets.proofs.Words.{tablet_seen, put2_other, by_master, messages_looks, SaysIn, member as member_at, put2_here}
+use Rattle.rk_inv_tablets.proofs.Words.{IsRebuilderIn, all_by, drop_all, with_piece, AreAlike, calls_alike, IsHeir, heir_post, IsToldIn}
+use Rattle.rk_inv_tablets.proofs.Words.{CountsFor, SpeaksFor, view_by_rows, SoundRow, SoundBeside, still_counts, handed_for_grant_alike}
+use Rattle.rk_inv_tablets.proofs.Words.{handed_by_alike, role_looks, terms_look, IsBareOf, IsNextOf, drop-append_seam}
 use Rattle.rk_inv_tablets.proofs.merge.Merging.{Merging, gathers, looks, merged, now, rebuilt, role_is, row_was, grow, closing, first}
 use Rattle.rk_inv_tablets.proofs.merge.Merging.{free_same, inside, mark, material_same, mine, new, of_written, old, own_is, past_is, piece}
 use Rattle.rk_inv_tablets.proofs.merge.Merging.{piece_length, rebuilder, term_is, unmarked, within, rest_same, tablet, turned, new_role}
 use Rattle.rk_inv_tablets.proofs.merge.Merging.{of_handover, sides_same, by_role, applied_same, rests_same}
 use Rattle.rk_inv_tablets.proofs.grow.Grown.{grown, says_more, SameFirst, marked_more, rebuilds_now, rebuilds_other, truth_same}
-use Rattle.rk_inv_tablets.proofs.grow.Grown.{target_same, placed_more, done_more, unnamed_more, cover_more, found_more, bare_more}
-use Rattle.rk_inv_tablets.proofs.grow.Grown.{rows_more, truths_same, known_more, items_more, waiting_more}
+use Rattle.rk_inv_tablets.proofs.grow.Grown.{target_same, placed_more, done_more, unnamed_more, bare_more, beside_more, rows_more}
+use Rattle.rk_inv_tablets.proofs.grow.Grown.{truths_same, items_more}
 use Rattle.rk_inv_tablets.proofs.merge.Pieces.{from_piece}
-use Rattle.rk_inv_tablets.proofs.grow.Turned.{of_tablet, seen_apart}
+use Rattle.rk_inv_base.proofs.views.Turned.{of_tablet}
 use Rattle.rk_inv_tablets.proofs.ready.Outside.{second_member, former_behind}
 use Rattle.rk_inv_tablets.proofs.merge.Collected.{collected}
 
@@ -372,24 +371,21 @@ module _ (v : View) (a : Merging v) where
 
   beside : SoundBeside (now v a)
   beside =
-      let known : (q r : ℕ) → v.live q ≡ true → All (λ end. IsKnown v.base v.journal end ⊎ IsStagedEnd v.rows (rests (now v a)) q r ((now v a).handovers q r).term end) (ends_of ((now v a).completions q r)) = λ q r lives.
-      rw (rests_same v a) (known_now q r lives) in
-      assumption (
-        a.sound,
-        terms_looks v.rows v.handovers (now v a).handovers v.wire a.sound.terms (looks v a),
-        cover_looks v.rows written v.handovers (now v a).handovers v.records v.wire (cover_more v (grow v a)) (looks v a),
-        (grow v a).logs_are,
-        known_more v (grow v a),
-        found_more v (grow v a),
-        λ (q r : ℕ) (lives : v.live q ≡ true) (there : is_absent ((now v a).handovers q r).role ≡ false).
-            a.sound.roles.known q r lives (sym (looks v a q r).role.absent ∙ there),
-        waiting_more v (grow v a) (now v a).handovers (λ q r staged. by_role v a may_have_staged refl q r ∙ staged),
-        λ (q r : ℕ).
-            of_handover v a (λ h. IsBareOf h (written q) (v.records q)) q r (λ at its. tt)
-            (λ apart. bare_more v (grow v a) q r apart (a.sound.receives.bare q r)),
-      )
+      beside_more v (grow v a) (tablet_seen (now v a))
+      (λ q r.
+      let looks = looks v a q r in
+      record {
+        term = looks.term;
+        range = looks.range;
+        absent = looks.role.absent;
+        stages = λ staged. by_role v a may_have_staged refl q r ∙ staged;
+      })
+      (λ q r lives. rw (rests_same v a) (known_now q r lives))
+      (λ q r.
+      of_handover v a (λ h. IsBareOf h (written q) (v.records q)) q r (λ at its. tt)
+      (λ apart. bare_more v (grow v a) q r apart (a.sound.receives.bare q r)))
 
   pub view_merged : SoundView (now v a)
   view_merged =
       view_by_rows (now v a) beside
-      (rows_more v (grow v a) (now v a) (λ seen. refl) (seen_apart v (now v a) a.master a.row.tablet (tablet v a) (turned v a)) here)
+      (rows_more v (grow v a) (now v a) (tablet v a) (λ tablets. refl) (turned v a) here)

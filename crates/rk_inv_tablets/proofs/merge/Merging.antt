@@ -18,7 +18,7 @@ use Rattle.rk_inv_tablets.proofs.crash.PieceRows.{marked_names_none, marked_of_r
 use Rattle.rk_inv_tablets.proofs.merge.Heirs.{at_term, gathering_rebuilds, gathers_from, merged_goes_on}
 use Rattle.rk_inv_tablets.proofs.merge.OfRange.{Counts, material_counts, piece_inside, segments_none}
 use Rattle.rk_inv_tablets.proofs.merge.Pieces.{free_counting, free_names, from_piece, marked_from_more}
-use Rattle.rk_inv_tablets.proofs.grow.Turned.{IsTurned}
+use Rattle.rk_inv_base.proofs.views.Turned.{IsTurned}
 use Rattle.rk_inv_tablets.proofs.grow.Grown.{Growing}
 use Rattle.rk_inv_tablets.proofs.merge.LogsMore.{logs_more}
 use Rattle.rk_inv_tablets.proofs.grow.MoreLog.{more_piece, more_itself, HasMore, rest_by}

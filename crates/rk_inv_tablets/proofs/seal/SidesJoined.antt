@@ -6,19 +6,22 @@ use Rattle.rk_inv_base.proofs.Words.{Phase, Rebuilding, Row, Handed, items_of, s
 use Rattle.rk_inv_base.proofs.Words.{Pulling, Written, applied_entries, member_material, member_truth, is_wanting, Post, Holds, bond_of}
 use Rattle.rk_inv_base.proofs.Words.{post_of, has_merged, HandedFits, HasArrived, IsHandedBy, IsTarget, MembersFit, before_closing}
 use Rattle.rk_inv_base.proofs.Words.{beginning_of, closing_joined, copied_items, entries_from, is_granted, joined_place, scan_items}
-use Rattle.rk_inv_base.proofs.Words.{wanted_place, Role, View, truths, rests, SoundView, Call, MarkFits, Message, has_all_items, is_absent}
-use Rattle.rk_inv_base.proofs.Words.{is_member}
-use Rattle.rk_inv_tablets.proofs.Words.{AreAlike, handed_by_alike, handed_for_grant_alike, speaks_alike, still_counts, calls_alike}
-use Rattle.rk_inv_tablets.proofs.Words.{cover_looks, stands_kept, put2_by, put2_other, IsRebuilderIn, mark_same, IsBareOf, role_looks}
-use Rattle.rk_inv_tablets.proofs.Words.{terms_look, AllLook, all_items_same, terms_looks, as_joining, as_sealed, sides_joined, row_in}
-use Rattle.rk_inv_tablets.proofs.Words.{waits_for, CountsFor, SoundBeside, SoundRow, SpeaksFor, view_by_rows, looks_same, IsRebuiltIn}
+use Rattle.rk_inv_base.proofs.Words.{wanted_place, Role, View, truths, SoundView, MarkFits, Message, has_all_items, is_absent, is_member}
+use Rattle.rk_inv_base.proofs.Words.{◌≢◌, HandoverFits, SoundTablet, Tablet, tablet_seen}
+use Rattle.rk_inv_tablets.proofs.Words.{AreAlike, handed_by_alike, handed_for_grant_alike, speaks_alike, still_counts, stands_kept, put2_by}
+use Rattle.rk_inv_tablets.proofs.Words.{put2_other, IsRebuilderIn, mark_same, role_looks, terms_look, AllLook, all_items_same, as_joining}
+use Rattle.rk_inv_tablets.proofs.Words.{as_sealed, sides_joined, row_in, CountsFor, SoundRow, SpeaksFor, looks_same, IsRebuiltIn, put2_here}
 use Rattle.rk_types.specs.declared.hashing.TheConstants.{BUCKETS}
 use Rattle.rk_table.proofs.InOrder.{bucket_below_end}
 use Rattle.rk_table.specs.Order.{item_bucket}
 use Rattle.rk_table.specs.Scans.{before_bucket, of_bucket}
 use Rattle.rk_inv_base.proofs.pulls.Replayed.{receiving_behind}
 use Rattle.rk_inv_base.proofs.rows.RowAppended.{StaysAs}
-use Rattle.rk_inv_base.proofs.views.OwnTablet.{rows_but_one}
+use Rattle.rk_inv_base.proofs.views.ByThings.{tablet_of}
+use Rattle.rk_inv_base.proofs.views.Lists.{all_in}
+use Rattle.rk_inv_base.proofs.views.TabletReplaced.{view_with_tablet}
+use Rattle.rk_inv_base.proofs.views.Terms.{handover_looks}
+use Rattle.rk_inv_base.proofs.views.Turned.{IsTurned}
 use Rattle.rk_inv_base.proofs.wire.Messages.{says_of_looks}
 use Rattle.rk_transfer.specs.declared.role.Role.TheVariants as roles
 
@@ -88,6 +91,16 @@ module _ (v : View) (row : Row) (master : ℕ) (numbers : List ℕ) (sound : Sou
 
   abbrev number : ℕ
   number = row.tablet
+
+  -- what the master has of the tablet then
+  abbrev joined : Tablet
+  joined = record (tablet_seen v master number) {
+    handover = as_joining (v.handovers master number);
+    pulling = as_sealed numbers (v.pullings master number);
+  }
+
+  turned : IsTurned v now master number joined
+  turned = grind (arith, put2_here, put2_other, as_joining, as_sealed)
 
   was : SoundRow v row
   was = row_in v sound row has_row
@@ -218,21 +231,22 @@ module _ (v : View) (row : Row) (master : ℕ) (numbers : List ℕ) (sound : Sou
             (was.says n m there),
       )
 
-  beside : SoundBeside now
-  beside =
+  -- the tablet is sound as one that joins
+  tablet : SoundTablet v master number joined
+  tablet =
+      let its = tablet_of v sound master number in
+      let there : is_absent (v.handovers master number).role ≡ false = ap is_absent receiving in
       assumption (
-        terms_looks v.rows v.handovers now.handovers v.wire sound.terms looks.each,
-        cover_looks v.rows v.written v.handovers now.handovers v.records v.wire sound.cover looks.each,
-        λ (q r : ℕ) (lives : v.live q ≡ true) (there : is_absent (now.handovers q r).role ≡ false).
-            sound.roles.known q r lives (sym (each q r).looks.role.absent ∙ there),
-        calls_alike v (truths v) (rests v) now.handovers sound.calls alike,
-        λ (q : ℕ) (lives : v.live q ≡ true) (k : ℕ) (c : Call) (there : get (v.calls q) k ≡ Some c).
-            let wait = sound.rest.waiting q lives k c there in
-            waits_for v.rows v.rows (v.handovers q) (now.handovers q) (v.written q) q k c wait wait.row wait.has_row wait.in_row wait.is_last
-            ((each q wait.row.tablet).stages ∙ wait.may_stage),
-        λ (q r : ℕ).
-            of_handover (λ (h : Handover). IsBareOf h (v.written q) (v.records q)) q r (λ at its. tt) (λ apart. sound.receives.bare q r),
+        its,
+        all_in _ (λ x. HandoverFits x number joined.handover) v.rows
+            (λ x has. handover_looks x number (v.handovers master number) joined.handover (joins_as (v.handovers master number) receiving).looks)
+            its.kept,
+        λ (absent : is_absent (roles.Joining None) ≡ false). its.begun there,
+        λ (other : ℕ) (apart : number ≢ other) (absent : is_absent (roles.Joining None) ≡ false). its.apart other apart there,
+        λ (alive : v.live master ≡ true) (absent : is_absent (roles.Joining None) ≡ false). its.has_row alive there,
       )
 
   pub view_sides_joined : SoundView now
-  view_sides_joined = search (view_by_rows, beside, rows_but_one, put2_other, as_joining, as_sealed, here)
+  view_sides_joined =
+      view_with_tablet v row master joined (tablet_seen now) sound
+      (record { has_row = has_row; turned = turned; tablet = tablet; stages = λ some staged. refl; holds = here })

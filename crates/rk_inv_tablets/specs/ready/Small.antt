@@ -16,17 +16,7 @@ use Rattle.rk_world.specs.Rebuilds.{rebuild_begun}
 use Rattle.rk_world.specs.Tablet.{Tablet, pulling_from, with_handover, without_merged}
 use Rattle.rk_world.specs.World.{World, master_at, with_master}
 use Rattle.rk_sound.specs.Small.{put}
-use Rattle.rk_sound.specs.View.{View}
-
--- what a master has of a tablet, as it is seen
-abbrev pub tablet_seen : View → ℕ → ℕ → Tablet
-tablet_seen v master tablet = record {
-  handover = v.handovers master tablet;
-  completions = v.completions master tablet;
-  pulling = v.pullings master tablet;
-  gather = v.gathers master tablet;
-  merged_ends = v.merged master tablet;
-}
+use Rattle.rk_sound.specs.View.{View, tablet_seen}
 
 -- what becomes of the tablets of a master where each one but this is given up whose range meets the range
 abbrev pub others_given_up : (ℕ → Tablet) → ℕ → Range → ℕ → Tablet

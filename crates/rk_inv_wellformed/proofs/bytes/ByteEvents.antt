@@ -80,8 +80,6 @@ split_logs w found at new formed = split_is (λ now. bytes_of_logs now ≤ 3 * b
     (λ row master from there is. logs_rise master (with_split (master_at w master) row.tablet at new (row.term + 1)) 0 formed
     (omega (arith, split_bytes (master_at w master) row.tablet at new (row.term + 1))))
 
--- ---- clients
-
 -- ---- every event
 
 -- how many bytes all logs have at most after an event that is not refused

@@ -81,8 +81,6 @@ module _ (w : World) (session : Session) (call : Call) (out : session.outstandin
   asking_sends : (asking w session (Some call)).world.wire.sent ≡ w.wire.sent + 1
   asking_sends = grind (arith, fits_with, session_turn, turn_of, asking_by, untouched)
 
--- ---- a turn that is refused
-
 -- ---- in a cluster
 
 module _ (Steady : World → Type 0) (masters : ℕ) (cluster : Cluster) (good : IsGood Steady masters cluster) (lane client : ℕ) where

@@ -61,5 +61,3 @@ module _ (w : World) (free : NoDeadOwner w.coordinator) (noticed : AllNoticed w)
       go [] none = absurd (disowned (silent_owned none))
       go (message ∷ messages) some =
           omega (arith, sent_all w.wire (coordinator_turn w.coordinator), ap (λ (list : List Message). length list) some)
-
--- ---- a turn that is refused

@@ -1,7 +1,5 @@
 -- A view in which one master has another tablet of a number than it had: what holds of each tablet.
-use Rattle.std.proofs.Common.{arith, ◌≡◌, ℕ, sym}
-use Rattle.rk_inv_base.proofs.Words.{cases_eq, Tablet, View}
-use Rattle.rk_inv_tablets.proofs.Words.{seen_at, tablet_seen}
+use Rattle.rk_inv_base.proofs.Words.{arith, ◌≡◌, ℕ, cases_eq, Tablet, View, tablet_seen}
 
 -- this master has this of the number now, and all others have what they had
 pub record IsTurned (v now : View) (master number : ℕ) (tablet : Tablet) : Type 0 where
@@ -16,15 +14,3 @@ module _ (v now : View) (master number : ℕ) (tablet : Tablet) (turned : IsTurn
   -- and what was said of it as it was may give what is said of it now
   pub by_turn : (P : ℕ → Tablet → Type 0) (q : ℕ) → (P master (tablet_seen v master number) → P master tablet) → P q (tablet_seen v q number) → P q (tablet_seen now q number)
   by_turn P q gives was = grind (arith, cases_eq)
-
-  -- of another number all have what they had
-  pub seen_apart : (q r : ℕ) → (r ≡ number → ⊥) → seen_at v r q ≡ seen_at now r q
-  seen_apart q r other i =
-      let t : Tablet = sym (turned.apart q r (λ at its. other its)) i in
-      record {
-        handover = t.handover;
-        completions = t.completions;
-        pulling = t.pulling;
-        gather = t.gather;
-        merged = t.merged_ends;
-      }
