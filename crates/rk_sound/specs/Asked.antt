@@ -1,4 +1,4 @@
--- Asked: every call that stands anywhere was asked here, and a client asks its next one only once the last is accepted. So an
+-- Asked: every call in a record or a Request was asked here, and a client asks its next one only once the last is accepted. So an
 -- old request is harmless, since a record of that very call is there; the steps that take a Request, and that accept, need it.
 use Rattle.std.specs.Prelude.{◌≡◌, ◌<◌, ℕ, true, List, Option, Some, None, All, Contains, IfSome, slice_get, ⊤, ◌⊎◌}
 use Rattle.rk_types.specs.NumberMap.{NumberMap, EachIn}
@@ -17,7 +17,7 @@ use Rattle.rk_world.specs.Base.{Base}
 use Rattle.rk_world.specs.Premises.{IsAfterStart}
 use Rattle.rk_world.specs.declared.ledger.LastCall.{LastCall}
 
--- a client's last call, in a lane: it is the client's own, its key lies there, and it comes after all that the start tells of the client
+-- a client's last call, in a lane: it is the client's own, its key lies there, and it comes after all that the start records of the client
 pub record IsLastCall (base : Base) (lane client : ℕ) (last : LastCall) : Type 0 where
   pub own : last.call.client ≡ client
   pub here : call_lane last.call ≡ lane
@@ -30,7 +30,7 @@ pub record IsAccepted (journal : List Placed) (call : Call) : Type 0 where
   pub call_is : placed.call ≡ call
   pub accepted : placed.accepted ≡ true
 
--- a call was asked: it is the last of its client, or an earlier one that is accepted
+-- a call was asked: it is the last of its client, or an earlier call, which is accepted
 abbrev pub WasAsked : Option LastCall → List Placed → Call → Type 0
 WasAsked None journal call = ⊥
 WasAsked (Some last) journal call = (last.call ≡ call) ⊎ ((call.seq < last.call.seq) × IsAccepted journal call)
@@ -68,7 +68,7 @@ pub record Asked (base : Base) (lane : ℕ) (asked : ℕ → Option LastCall) (r
   pub own_keys : HasOwnKeys lane journal
   -- each record is of a call that was asked
   pub recorded : All (λ placed. WasAsked (asked placed.call.client) journal placed.call) journal
-  -- and comes after all that the start tells of its client
+  -- and comes after all that the start records of its client
   pub after_start : All (λ placed. IsAfterStart base placed.call) journal
   -- no call has two accepted records
   pub once :

@@ -33,7 +33,7 @@ pub record Reaches (end : Ended) (placed : Placed) : Type 0 where
   pub client : end.client ≡ placed.call.client
   pub reached : (placed.call.seq < end.seq) ⊎ ((placed.call.seq ≡ end.seq) × (outcome_of end.end ≡ placed.outcome))
 
--- among ends is one that reaches a record
+-- among ends is an end that reaches a record
 pub record IsReached (ends : List Ended) (placed : Placed) : Type 0 where
   pub end : Ended
   pub stands : Contains ends end
@@ -44,7 +44,7 @@ abbrev pub ReachAll : Range → List Placed → List Ended → Type 0
 ReachAll range journal ends =
     All (λ placed. is_record_in range placed ≡ true → is_mutation placed.call.op ≡ true → IsReached ends placed) journal
 
--- entries tell the end of each mutation in a range, by what they tell of its key
+-- entries record the end of each mutation in a range, by what they record of its key
 abbrev pub TellAll : Range → List Placed → List Entry → Type 0
 TellAll range journal entries =
     All (λ placed. is_record_in range placed ≡ true → is_mutation placed.call.op ≡ true
@@ -63,7 +63,7 @@ pub record IsRecorded (journal : List Placed) (end : Ended) : Type 0 where
   pub stands : Contains journal placed
   pub fits : IsRecordOf end placed
 
--- an end is that of a record, or one that was there at the start
+-- an end is that of a record, or was there at the start
 abbrev pub IsKnown : Base → List Placed → Ended → Type 0
 IsKnown base journal end = IsRecorded journal end ⊎ Contains (ends_told base) end
 
@@ -72,7 +72,7 @@ pub record AreHandedOver (base : Base) (range : Range) (journal : List Placed) (
   pub reached : ReachAll range journal list
   pub known : All (IsKnown base journal) list
 
--- an end that stands behind the truth of a row that this master rebuilds, at the row's term
+-- an end behind the truth of a row that this master rebuilds, at the row's term
 pub record IsStagedEnd (rows : List Row) (rests : Row → List Entry) (master tablet term : ℕ) (end : Ended) : Type 0 where
   pub row : Row
   pub stands : Contains rows row
@@ -86,11 +86,11 @@ pub record Calls (base : Base) (rows : List Row) (truths rests : Row → List En
   pub once :
       (i j : ℕ) (a b : Placed) → slice_get journal i ≡ Some a → slice_get journal j ≡ Some b
       → AreOneMutation a.call b.call → i ≡ j
-  -- the truth of a row tells, key by key, the end of each mutation there, or of a later call of its client; each end that it tells
+  -- the truth of a row records, key by key, the end of each mutation there, or of a later call of its client; each end that it has
   -- is a record's, or one of the start
   pub reached : All (λ row. TellAll row.range journal (truths row)) rows
   pub recorded : All (λ row. All (IsKnown base journal) (told (truths row))) rows
-  -- what a row that moves has once its source is forgotten tells the end of each mutation there, too
+  -- what a row that moves has once its source is forgotten records the end of each mutation there, too
   pub moving : All (λ row. IfSome (target_truth written handed row row.phase) (TellAll row.range journal)) rows
   -- so do the completions of a master that answers calls, or will
   pub answering :
@@ -103,7 +103,7 @@ pub record Calls (base : Base) (rows : List Row) (truths rests : Row → List En
   pub sent :
       EachIn (λ number message.
       All (λ row. IfSome (handed_by row handovers message.body) (λ h. AreHandedOver base row.range journal h.ends)) rows) wire
-  -- each end that a living master keeps is a record's, or one of the start, or one that its rebuild is to make a record of
+  -- each end that a living master keeps is a record's, or one of the start, or an end that its rebuild is to make a record of
   pub known :
       (master tablet : ℕ) → live master ≡ true
       → All (λ end. IsKnown base journal end

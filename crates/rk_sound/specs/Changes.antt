@@ -1,5 +1,5 @@
--- Changes: the conditions of the small changes of calls, logs and messages, over views. A change is made where its condition holds, and then
--- each part is kept; that a step meets the conditions of its changes is another matter, told by what it tests and by the parts.
+-- Changes: the conditions of the small changes of calls, logs and messages, over views. A change is made if its condition holds, and then
+-- each part is kept; that a step meets the conditions of its changes is another matter, shown by what it tests and by the parts.
 use Rattle.std.specs.Prelude.{◌≡◌, ◌≢◌, ◌≤◌, ◌<◌, ℕ, ◌+◌, Bool, true, false, if◌then◌else◌, List, [], ◌∷◌, ◌++◌, Option, Some, None, Contains, IfSome, All, length, slice_get, is_some}
 use Rattle.rk_types.specs.declared.call.Call.{Call}
 use Rattle.rk_types.specs.declared.call.End.TheVariants as ends
@@ -40,7 +40,7 @@ use Rattle.rk_sound.specs.Asked.{RequestSays, IsAccepted, IsRequest, WasAsked, H
 
 -- ---- the wire
 
--- a message may be sent where it says what the parts ask of it; one may be forgotten always
+-- a message may be sent if it says what the parts ask of it; a message may always be forgotten
 pub record MaySend (v : View) (message : Message) : Type 0 where
   pub terms : All (λ row. SentFits row message.body) v.rows
   pub logs_say : LogSays v.logs v.stored message.from message.to message.body
@@ -67,15 +67,15 @@ pub record MayCome (v : View) (client : ℕ) : Type 0 where
 pub record MaySave (v : View) (client : ℕ) (message : Message) : Type 0 where
   pub request : IsRequest v.asked v.journal client message.from message.body
 
--- a client may ask a call where its last one, if any, is older and accepted, the key lies in this lane, and the call comes after all
--- that the start tells of the client
+-- a client may ask a call when its last one, if any, is older and accepted, the key lies in this lane, and the call comes after all
+-- that the start records of the client
 pub record MayAsk (v : View) (client : ℕ) (last : LastCall) : Type 0 where
   pub own : last.call.client ≡ client
   pub here : call_lane last.call ≡ v.lane
   pub after : IsAfterStart v.base last.call
   pub accepted : IfSome (v.asked client) (λ old. (old.call.seq < last.call.seq) × IsAccepted v.journal old.call)
 
--- a record may be accepted where it is that of its client's last call, if the client is there, and that has no accepted one
+-- a record may be accepted when it is that of its client's last call, if the client is there, and that call has no accepted one
 pub record MayAccept (v : View) (place : ℕ) : Type 0 where
   pub placed : Placed
   pub stands : slice_get v.journal place ≡ Some placed
@@ -91,7 +91,7 @@ pub record MayStore (v : View) (master backup segment : ℕ) (bytes : List ℕ) 
   pub goes_on : IsFirstPart (stored_of v.stored master backup segment ++ bytes) (bytes_of (v.logs master) segment)
   pub in_order : bytes ≢ [] → IsKnownBefore (v.logs master) (known_of (v.logs master) backup) segment
 
--- a living master may believe that a backup of the lane stores so many bytes where it does
+-- a living master may believe that a backup of the lane stores so many bytes if it does
 pub record MayTell (v : View) (master backup segment size : ℕ) : Type 0 where
   pub lives : v.live master ≡ true
   pub there : IsBackup (v.logs master) backup
@@ -132,7 +132,7 @@ MayEndIn v row call outcome = MayEnd v.base (rests v row) v.journal v.asked call
 abbrev pub HasSegmentLeft : Log → Type 0
 HasSegmentLeft log = length (cut log.entries) + 1 < FIRST_SIDE_SEGMENT
 
--- the entry of a call may be appended to the log of a master that answers calls for the key, where the log has room; the tablet has
+-- the entry of a call may be appended to the log of a master that answers calls for the key, if the log has room; the tablet has
 -- this counter then. Each item of the entry is above all that counts for the row, and the counter above that and the entry. The call
 -- is the last that its client asked, and with its entry what is staged of the row goes on lawfully
 pub record MayAppend (v : View) (master : ℕ) (call : Call) (entry : Entry) (counter : ℕ) : Type 0 where
@@ -148,7 +148,7 @@ pub record MayAppend (v : View) (master : ℕ) (call : Call) (entry : Entry) (co
 abbrev pub next_version : View → ℕ → Row → ℕ
 next_version v master row = (v.handovers master row.tablet).counter
 
--- a write or a removal may be staged where its master answers calls for the key: it takes the tablet's counter as its
+-- a write or a removal may be staged if its master answers calls for the key: it takes the tablet's counter as its
 -- version, and leaves what the call says
 pub record MayStage (v : View) (master : ℕ) (call : Call) (value : Option (List ℕ)) : Type 0 where
   pub served : IsServedIn v master call
@@ -162,14 +162,14 @@ pub record MayStage (v : View) (master : ℕ) (call : Call) (value : Option (Lis
 abbrev pub refused_as : ℕ → Bool → Outcome
 refused_as found absent = outcome_of (if absent then ends.Absent else ends.Mismatch found)
 
--- a refusal may be staged where its master answers calls for the key
+-- a refusal may be staged if its master answers calls for the key
 pub record MayRefuse (v : View) (master : ℕ) (call : Call) (outcome : Outcome) : Type 0 where
   pub served : IsServedIn v master call
   pub ends : MayEndIn v served.row call outcome
   pub room : HasSegmentLeft (v.logs master)
   pub leaves : change_of call.op outcome ≡ None
 
--- a read may get its record where it tells what the journal leaves, and was asked, by a client that had seen this stamp
+-- a read may get its record if it returns what the journal leaves, and was asked, by a client that had seen this stamp
 pub record MayRead (v : View) (master : ℕ) (call : Call) (seen : ℕ) (outcome : Outcome) : Type 0 where
   pub read : is_mutation call.op ≡ false
   pub served : IsServedIn v master call
@@ -177,7 +177,7 @@ pub record MayRead (v : View) (master : ℕ) (call : Call) (seen : ℕ) (outcome
   pub has_seen : HasSeen (v.asked call.client) call seen
   pub allowed : Allowed (map_after (base_map v.base) v.journal call.table call.key) call.op outcome
 
--- the next entry of a living master's log may be applied where every backup is known to hold it
+-- the next entry of a living master's log may be applied if every backup is known to hold it
 pub record MayApply (v : View) (master : ℕ) : Type 0 where
   pub lives : v.live master ≡ true
   pub held : (v.written master).applied < committed (v.logs master)

@@ -19,7 +19,7 @@ use Rattle.rk_world.specs.Written.{Written}
 use Rattle.rk_sound.specs.Posts.{post_of, speaks, StillCounts}
 use Rattle.rk_sound.specs.Handing.{handed_by, handed_for_grant, target_truth}
 
--- the floor of what entries tell of a key is above the version that a map has of it, for each key in a range
+-- the floor of the entries that concern a key is above the version that a map has of it, for each key in a range
 abbrev pub AreAboveMap : Range → Map → List Entry → Type 0
 AreAboveMap range map entries =
     (table : ℕ) (key : List ℕ) → has_key range table key ≡ true → last_version (map table key) < floor_of (of_key table key entries)

@@ -1,4 +1,4 @@
--- Handing: what was told to hand a tablet over, as long as it may still be taken, and what it makes of the target of a row that moves.
+-- Handing: what is handed over with a tablet, as long as it may still be taken, and what it makes of the target of a row that moves.
 use Rattle.std.specs.Prelude.{ℕ, ◌==◌, ◌&&◌, Bool, true, false, if◌then◌else◌, List, ◌∷◌, Option, Some, None}
 use Rattle.std.specs.Option.{option_map}
 use Rattle.rk_types.specs.NumberMap.{NumberMap, get}
@@ -62,12 +62,12 @@ handed_by row handovers (bodies.Grant grant) =
     else None
 handed_by row handovers _ = None
 
--- the entry that begins what the target of a row has, by what the source told
+-- the entry that begins what the target of a row has, by what the source handed over
 abbrev pub beginning_in : Row → Handed → Entry
 beginning_in row handed =
     entries.Carried (record { range = row.range; term = row.term; floor = handed.floor; ends = handed.ends })
 
--- what the target of a row that moves has applied, behind what its source told; none where nothing is noted
+-- what the target of a row that moves has applied, behind what its source handed over; none if nothing is noted
 abbrev pub target_truth : (ℕ → Written) → NumberMap Handed → Row → Phase → Option (List Entry)
 target_truth written handed row (Moving source sfrom target dfrom) =
     option_map

@@ -53,7 +53,7 @@ pub record IsLog (log : Log) (written : Written) (stored : ℕ → ℕ → List 
   pub copies : (backup : ℕ) → IsBackup log backup → IsCopy log (stored backup) (known_of log backup)
   -- side segments spell the items that they have
   pub spelled : log.sides ≡ map (λ items. spelled_all (as_entries items)) written.sides
-  -- a Joined stands in the log only where every backup is known to hold the segments that it names
+  -- a Joined is in the log only if every backup is known to hold the segments that it names
   pub named : All (λ entry. All (λ segment. is_side_stored log segment ≡ true) (segments_in entry)) written.entries
   -- a marked piece lies within the log
   pub marked : All (λ mark. mark.past ≤ length written.entries) written.marks

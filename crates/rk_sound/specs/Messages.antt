@@ -51,7 +51,7 @@ use Rattle.rk_sound.specs.Handing.{is_wanting}
 use Rattle.rk_sound.specs.Receives.{scan_items}
 use Rattle.rk_sound.specs.Rebuilds.{READ_BACKUP, IsReadPart, NeededOf}
 
--- the row is the one that a message speaks of, at its term
+-- a message speaks of this row, at its term
 pub record IsOf (row : Row) (tenure : Tenure) : Type 0 where
   pub tablet : tenure.tablet ≡ row.tablet
   pub term : tenure.term ≡ row.term
@@ -73,7 +73,7 @@ ByMaster node Fits = ⊥
 abbrev pub AsksFor : Prepare → Row → Type 0
 AsksFor prepare row = (prepare.tenure.tablet ≡ row.tablet) ⊎ (meets row.range prepare.range ≡ true)
 
--- a Prepare, beside each row: its members keep as great a term, where the row is asked for
+-- a Prepare, beside each row: its members keep as great a term, if the row is asked for
 pub record PrepareFits (row : Row) (handover : Handover) (live : Bool) (master : ℕ) (prepare : Prepare) : Type 0 where
   pub range : IsOf row prepare.tenure → prepare.range ≡ row.range
   pub invited : IsOf row prepare.tenure → live ≡ true → handover.term < row.term → post_of row.phase master ≡ InvitedTarget
@@ -101,7 +101,7 @@ HasSource (Opening source sfrom target dfrom) master = source ≡ master
 HasSource (Moving source sfrom target dfrom) master = source ≡ master
 HasSource phase master = ⊤
 
--- a Close; one that its living receiver would follow may be followed now
+-- a Close; if its living receiver would follow it, it may be followed now
 pub record CloseFits (row : Row) (handover : Handover) (live : Bool) (master : ℕ) (tenure : Tenure) : Type 0 where
   pub source : IsOf row tenure → HasSource row.phase master
   pub may_follow :
@@ -142,7 +142,7 @@ IsOwner OpeningSource own term = ⊤
 IsOwner (OnlyRebuilder place) own term = own < term
 IsOwner _ own term = ⊥
 
--- an Own; a living receiver keeps as great a term, and one that keeps its term owns the tablet, or did
+-- an Own; a living receiver keeps as great a term, and if it keeps that very term, it owns the tablet, or did
 pub record OwnFits (row : Row) (handover : Handover) (live : Bool) (master : ℕ) (tenure : Tenure) : Type 0 where
   pub owned : IsOf row tenure → IsOwnedBy row.phase master
   pub reached : tenure.tablet ≡ row.tablet → live ≡ true → tenure.term ≤ handover.term
@@ -159,13 +159,13 @@ pub record ReleaseFits (row : Row) (handover : Handover) (live : Bool) (master :
 
 -- ---- reports to the coordinator: one of the row's term that it would take agrees with what its sender keeps
 
--- a Ready tells the place of a target that waits
+-- a Ready reports the place of a target that waits
 abbrev pub ReadyIn : Phase → Handover → ℕ → ℕ → ℕ → Type 0
 ReadyIn (Opening source sfrom target None) handover term master place =
     (target ≡ master) × (handover.role ≡ roles.Wanting place) × (handover.term ≡ term)
 ReadyIn phase handover term master place = ⊤
 
--- a frozen source tells its counter and its ends
+-- a frozen source reports its counter and its ends
 pub record IsFrozenSource (handover : Handover) (completions : Completions) (term : ℕ) (transfer : Transfer) : Type 0 where
   pub role_is : handover.role ≡ roles.Frozen
   pub term_is : handover.term ≡ term
@@ -183,7 +183,7 @@ abbrev pub HasJoined : Role → ℕ → Type 0
 HasJoined (roles.Joining (Some entry)) applied = entry < applied
 HasJoined role applied = ⊥
 
--- a Joined is of the target, which has joined, where the row moves, and of the owner, where it is owned
+-- a Joined is from the target, which has joined, if the row moves, and from the owner, if it is owned
 abbrev pub JoinedIn : Phase → Handover → ℕ → ℕ → ℕ → Type 0
 JoinedIn (Moving source sfrom target dfrom) handover applied term master =
     (target ≡ master) × (handover.term ≡ term) × HasJoined handover.role applied
@@ -195,15 +195,15 @@ abbrev pub HasRebuilt : Role → ℕ → ℕ → Type 0
 HasRebuilt (roles.Rebuilding from (Some entry)) applied place = (entry < applied) × (from ≡ place)
 HasRebuilt role applied place = ⊥
 
--- a Rebuilt tells the place, and the ends of what its sender merged in their order
+-- a Rebuilt reports the place, and the ends of what its sender merged in their order
 abbrev pub RebuiltIn : Phase → Handover → List Ended → ℕ → ℕ → ℕ → Rebuilt → Type 0
 RebuiltIn (Rebuilding lineage to) handover merged applied term master rebuilt =
     (to ≡ master) × (handover.term ≡ term) × HasRebuilt handover.role applied rebuilt.place × (rebuilt.ends ≡ merged)
 RebuiltIn (Owned owner from) handover merged applied term master rebuilt = (owner ≡ master) × (from ≡ rebuilt.place)
 RebuiltIn phase handover merged applied term master rebuilt = ⊥
 
--- ---- between source and target: none of the row's term stands before the row has moved; what a target would take is what
--- its source has
+-- ---- between source and target: no message of the row's term is on the wire before the row has moved; what a target would take is
+-- what its source has
 
 -- a row moves, or is owned
 abbrev pub IsMovingOrOwned : Phase → Type 0
@@ -211,7 +211,7 @@ IsMovingOrOwned (Moving source sfrom target dfrom) = ⊤
 IsMovingOrOwned (Owned owner from) = ⊤
 IsMovingOrOwned phase = ⊥
 
--- no message of the row's term stands while the row opens or is rebuilt
+-- no message of the row's term is on the wire while the row opens or is rebuilt
 abbrev pub AfterMove : Row → Tenure → Type 0
 AfterMove row tenure = IsOf row tenure → IsMovingOrOwned row.phase
 
@@ -220,14 +220,14 @@ pub record IsOfTarget (row : Row) (handover : Handover) (tenure : Tenure) : Type
   pub tablet : tenure.tablet ≡ row.tablet
   pub term : tenure.term ≡ handover.term
 
--- a Grant that its receiver would take is for the second of two members, from the first, with what that told
+-- a Grant that its receiver would take is for the second of two members, from the first, with what the first handed over
 abbrev pub GrantIn : List Member → Option Handed → ℕ → Grant → Type 0
 GrantIn (source ∷ target ∷ []) handed master grant =
     (target.master ≡ master) × (grant.source ≡ source.master)
     × (handed ≡ Some (record { floor = grant.floor; ends = grant.ends }))
 GrantIn lineage handed master grant = ⊥
 
--- a Grant; a living receiver keeps as great a term, and one that waits at its term is the target
+-- a Grant; a living receiver keeps as great a term, and if it waits at that very term, it is the target
 pub record GrantAgrees (row : Row) (handover : Handover) (live : Bool) (handed : Option Handed) (master : ℕ) (grant : Grant) : Type 0 where
   pub reached : grant.tenure.tablet ≡ row.tablet → live ≡ true → grant.tenure.term ≤ handover.term
   pub told :
@@ -280,7 +280,7 @@ CopyIn row phase logs written stored live copy = ⊤
 
 -- ---- to clients
 
--- a record of a client's call stands at the place that a Reply tells, with its stamp and outcome
+-- a record of a client's call is at the place that a Reply names, with its stamp and outcome
 pub record IsRecordAt (journal : List Placed) (client : ℕ) (reply : Reply) (outcome : Outcome) : Type 0 where
   pub placed : Placed
   pub stands : slice_get journal reply.place ≡ Some placed

@@ -1,4 +1,4 @@
--- Moves: the conditions of the small changes of roles, rebuilds and rows, over views. One that takes a row says that it stands there.
+-- Moves: the conditions of the small changes of roles, rebuilds and rows, over views. One that takes a row says that the row is there.
 use Rattle.std.specs.Prelude.{◌≡◌, ◌≢◌, ◌≤◌, ◌<◌, ℕ, ◌+◌, Bool, true, false, List, [], ◌∷◌, ◌++◌, Option, Some, None, Contains, All, IfSome, length, drop, ◌⊎◌, ◌^◌, ⊤}
 use Rattle.std.specs.List.{flat_map, list_any}
 use Rattle.rk_types.specs.NumberMap.{EachIn, get}
@@ -56,7 +56,7 @@ use Rattle.rk_sound.specs.Messages.{AsksFor, HasJoined, HasRebuilt, IsRebuiltBy,
 use Rattle.rk_sound.specs.Tables.{has_all_items}
 use Rattle.rk_sound.specs.Changes.{HasSegmentLeft}
 
--- nothing of a range that is not applied stands in a log
+-- a log has nothing of a range that is not applied
 abbrev pub IsSettledIn : Range → Written → Type 0
 IsSettledIn range written = list_any (touches range) (drop written.applied written.entries) ≡ false
 
@@ -68,7 +68,7 @@ IsAboveKept v master range term =
     (number : ℕ) → meets (v.handovers master number).range range ≡ true → (v.handovers master number).term < term
 
 -- a living master may make ready for a tablet at a term above each that it keeps of it, or of a range that meets it, and at most the
--- row's; at the row's own term only where the row asks it to. The range lies in rows, the term is below that of each other row that
+-- row's; at the row's own term only if the row asks it to. The range lies in rows, the term is below that of each other row that
 -- the range meets, and the master is in the lineage of no row that is asked for
 pub record MayPrepare (v : View) (row : Row) (master : ℕ) (prepare : Prepare) : Type 0 where
   pub lives : v.live master ≡ true
@@ -82,7 +82,7 @@ pub record MayPrepare (v : View) (row : Row) (master : ℕ) (prepare : Prepare) 
   pub below : All (λ other. IsBelowOthers other row.tablet prepare.tenure.term prepare.range) v.rows
   pub outside : All (λ other. AsksFor prepare other → is_member (lineage_of other.phase) master ≡ true → ⊥) v.rows
 
--- a living source may close at a greater term, in a role from which that is a move, where the row asks it to, or where it is now to
+-- a living source may close at a greater term, in a role from which that is a move, if the row asks it to, or if it is now to
 -- rebuild the tablet, which was its alone, at a term that is greater still
 pub record MayClose (v : View) (row : Row) (master term : ℕ) : Type 0 where
   pub lives : v.live master ≡ true
@@ -91,13 +91,13 @@ pub record MayClose (v : View) (row : Row) (master term : ℕ) : Type 0 where
   pub closes : role_closed (v.handovers master row.tablet).role ≡ Some roles.Closing
   pub may_follow : MayFollowClose row master term
 
--- a tablet that closes may freeze, where nothing of it is left to be applied
+-- a tablet that closes may freeze, if nothing of it is left to be applied
 pub record MayFreeze (v : View) (master tablet : ℕ) : Type 0 where
   pub lives : v.live master ≡ true
   pub closing : (v.handovers master tablet).role ≡ roles.Closing
   pub settled : IsSettledIn (v.handovers master tablet).range (v.written master)
 
--- a living target may be granted its tablet, by what its source told
+-- a living target may be granted its tablet, by what its source handed over
 pub record MayGrant (v : View) (row : Row) (source target : Member) (grant : Grant) : Type 0 where
   pub lives : v.live target.master ≡ true
   pub has_row : Contains v.rows row
@@ -119,7 +119,7 @@ pub record IsPulling (v : View) (row : Row) (source target : Member) : Type 0 wh
 abbrev pub source_items : View → Row → Member → List Held
 source_items v row source = scan_items (member_truth v.written row.range source)
 
--- an item may be replayed where it is one of the source's
+-- an item may be replayed if it is one of the source's
 pub record MayReplay (v : View) (row : Row) (source target : Member) (worker : ℕ) (item : Held) : Type 0 where
   pub pulling : IsPulling v row source target
   pub worker_is : worker < 4
@@ -148,19 +148,19 @@ pub record GoesOn (v : View) (row : Row) (source target : Member) (new : Pulling
       → HasArrived (v.handovers target.master row.tablet).role (v.pullings target.master row.tablet) (source_items v row source) item
       ⊎ IsThere v row target item
 
--- what is pulled of a tablet may go on at a master, where it does so for each row whose target the master is
+-- what is pulled of a tablet may go on at a master, if it does so for each row whose target the master is
 abbrev pub MayGoOn : View → ℕ → ℕ → (Pulling → Pulling) → Type 0
 MayGoOn v master tablet change =
     (row : Row) (source target : Member) → Contains v.rows row → target.master ≡ master → row.tablet ≡ tablet
     → lineage_of row.phase ≡ source ∷ target ∷ []
     → GoesOn v row source target (change (v.pullings target.master row.tablet))
 
--- a target may pass on to a token where all items that the token has passed have arrived
+-- a target may pass on to a token if all items that the token has passed have arrived
 pub record MayPass (v : View) (row : Row) (source target : Member) (next : Token) : Type 0 where
   pub pulling : IsPulling v row source target
   pub arrived : HaveArrived v row target (passed next (source_items v row source))
 
--- hashes may be resolved where all items that have them have arrived
+-- hashes may be resolved if all items that have them have arrived
 pub record MayResolve (v : View) (row : Row) (source target : Member) (hashes : List ℕ) : Type 0 where
   pub pulling : IsPulling v row source target
   pub arrived : HaveArrived v row target (flat_map (λ hash. at_hash hash (source_items v row source)) hashes)
@@ -190,7 +190,7 @@ IsClosed (roles.Joining (Some entry)) applied = entry < applied
 IsClosed (roles.Rebuilding from (Some entry)) applied = entry < applied
 IsClosed role applied = ⊥
 
--- the owner of a row, or one that owned it at the term that it keeps, may serve once its closing entry is applied
+-- the owner of a row, or a master that owned it at the term that it keeps, may serve once its closing entry is applied
 pub record MayOwn (v : View) (row : Row) (master : ℕ) : Type 0 where
   pub lives : v.live master ≡ true
   pub has_row : Contains v.rows row
@@ -223,8 +223,8 @@ pub record MayRise (row : Row) (master : ℕ) (new : Handover) : Type 0 where
   pub owner : IsOwner (post_of row.phase master) new.term row.term
 
 -- the role of a row's tablet may change at a living master into a steady one: the range and the counter stay, and so does the term or
--- it may rise to one that is at most the row's. The new role fits the master's post and speaks no more than the old one; where it may
--- have nothing staged, nothing is. The old role awaits no grant, and is that of no frozen member
+-- it may rise to one that is at most the row's. The new role fits the master's post and speaks no more than the old one; if it
+-- allows nothing staged, nothing is. The old role awaits no grant, and is that of no frozen member
 pub record MayTakeRole (v : View) (row : Row) (master : ℕ) (new : Handover) : Type 0 where
   pub lives : v.live master ≡ true
   pub has_row : Contains v.rows row
@@ -256,8 +256,8 @@ pub record MayBegin (v : View) (row : Row) (master : ℕ) (rebuild : Rebuild) : 
   pub greater : (v.handovers master row.tablet).term < row.term
   pub above : IsAboveKept v master row.range row.term
 
--- what was read of the awaited segment may be gathered for the row that the master rebuilds, where it is a first part that holds what
--- its master knew to be stored, and what is needed; where there are no bytes, the master knew nothing of it to be stored
+-- what was read of the awaited segment may be gathered for the row that the master rebuilds, if it is a first part that holds what
+-- its master knew to be stored, and what is needed; if there are no bytes, the master knew nothing of it to be stored
 pub record MayGather (v : View) (own tablet master segment : ℕ) (bytes : Option (List ℕ)) : Type 0 where
   pub lives : v.live own ≡ true
   pub row : Row
@@ -280,14 +280,14 @@ pub record GathersOn (v : View) (row : Row) (lineage : List Member) (own : ℕ) 
       AreGathered (NeededOf row v.written lineage) (λ q. known_of (v.logs q) READ_BACKUP) (λ q. stored_of v.stored q READ_BACKUP)
       new.members
 
--- what is gathered for a tablet may go on at a master, where it does so for each row that the master rebuilds at the row's term
+-- what is gathered for a tablet may go on at a master, if it does so for each row that the master rebuilds at the row's term
 abbrev pub MayGatherOn : View → ℕ → ℕ → (Gather → Gather) → Type 0
 MayGatherOn v own tablet change =
     (row : Row) (lineage : List Member) → Contains v.rows row → row.tablet ≡ tablet → row.phase ≡ Rebuilding lineage own
     → (v.handovers own row.tablet).term ≡ row.term
     → GathersOn v row lineage own (change (v.gathers own row.tablet))
 
--- what was gathered may be merged, once all is, where the log has room for the copies and the entry that closes the rebuild
+-- what was gathered may be merged, once all is, if the log has room for the copies and the entry that closes the rebuild
 pub record MayMerge (v : View) (master tablet : ℕ) (copies : List Held) (closing : Entry) : Type 0 where
   pub lives : v.live master ≡ true
   pub room : length (cut ((v.logs master).entries ++ (as_entries copies ++ closing ∷ []))) < FIRST_SIDE_SEGMENT
@@ -306,8 +306,8 @@ HasSomeIn (entries.Carried carried) = HasSome carried.range
 HasSomeIn (entries.Joined joined) = HasSome joined.range
 HasSomeIn entry = ⊤
 
--- a row may be added for a master that lives and is there, where its number is free and it meets no other. An empty range may seem to
--- meet one that has nothing of it; and the history may start with items of the new range, if none of them lies in a row. A lane that is
+-- a row may be added for a master that lives and is there, if its number is free and it meets no other. An empty range may seem to
+-- meet a range that has nothing of it; and the history may start with items of the new range, if none of them lies in a row. A lane that is
 -- well formed has neither: no range in it is empty, and what its history starts from lies in rows
 pub record MayAdd (v : View) (row : Row) (master : ℕ) : Type 0 where
   pub lives : v.live master ≡ true
@@ -335,8 +335,8 @@ pub record OpensOn (old new : Phase) : Type 0 where
   pub was : old ≡ Opening source from target noted
   pub is : new ≡ Opening source from target (Some place)
 
--- what a master has of a tablet fits its new post, where its row had another term; in the new post it speaks and has all items only
--- where it did before, and it owns the tablet still if it did
+-- what a master has of a tablet fits its new post at the row's new term; in the new post it speaks and has all items only
+-- if it did before, and it still owns the tablet if it did
 pub record MayTakePost (was is : Post) (old new : ℕ) (handover : Handover) (applied : ℕ) : Type 0 where
   pub fits : Holds (bond_of is handover.role) new handover.term applied
   pub speaks : speaks is handover new ≡ true → speaks was handover old ≡ true
@@ -394,14 +394,14 @@ pub record IsWaitingFor (v : View) (row : Row) (target place : ℕ) : Type 0 whe
   pub role_is : (v.handovers target row.tablet).role ≡ roles.Wanting place
   pub term_is : (v.handovers target row.tablet).term ≡ row.term
 
--- the place of a target may be noted, where that waits at it
+-- the place of a target may be noted, if the target waits at it
 pub record MayNote (v : View) (row : Row) (source sfrom target place : ℕ) : Type 0 where
   pub has_row : Contains v.rows row
   pub phase_is : row.phase ≡ Opening source sfrom target None
   pub waiting : IsWaitingFor v row target place
 
--- a row may move, where its source is frozen and told its counter and its ends, each of which is known, and its target waits at the
--- place that it told
+-- a row may move, if its source is frozen and reported its counter and its ends, each of which is known, and its target waits at the
+-- place that it reported
 pub record MayMove (v : View) (row : Row) (source sfrom target dfrom : ℕ) (handed : Handed) : Type 0 where
   pub has_row : Contains v.rows row
   pub phase_is : row.phase ≡ Opening source sfrom target (Some dfrom)
@@ -419,7 +419,7 @@ pub record MayTakeJoined (v : View) (row : Row) (source sfrom target dfrom : ℕ
   pub term_is : (v.handovers target row.tablet).term ≡ row.term
   pub joined : HasJoined (v.handovers target row.tablet).role (v.written target).applied
 
--- a row that is rebuilt may be owned by the master that rebuilt it, which told its place and the ends that it merged
+-- a row that is rebuilt may be owned by the master that rebuilt it, which reported its place and the ends that it merged
 pub record MayTakeRebuilt (v : View) (row : Row) (lineage : List Member) (to place : ℕ) (ends : List Ended) : Type 0 where
   pub has_row : Contains v.rows row
   pub phase_is : row.phase ≡ Rebuilding lineage to

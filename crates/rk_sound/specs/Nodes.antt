@@ -23,5 +23,5 @@ pub record Nodes (numbers : ℕ → ℕ) (logs : ℕ → Log) (count backups : �
   pub named : (master : ℕ) → All (λ row. names row.phase master ≡ true → IsMaster count master) rows
   -- each master that was noticed dead has crashed
   pub crashed : All (λ master. live master ≡ false) noticed
-  -- where one has crashed, another one is left
+  -- if one has crashed, another one is left
   pub left : (master : ℕ) → live master ≡ false → SomeLives count live

@@ -12,7 +12,7 @@ use Rattle.rk_world.specs.Ends.{items_of}
 abbrev pub IsAboveAll : List Held → Held → Type 0
 IsAboveAll others item = All (λ other. is_of item.table item.key other ≡ true → other.version < item.version) others
 
--- each item is above those of its key before it, where these stand before all
+-- each item is above those of its key before it; the items of `before` come before all
 abbrev pub AreAbove : List Held → List Held → Type 0
 AreAbove before [] = ⊤
 AreAbove before (item ∷ items) = IsAboveAll before item × AreAbove (before ++ item ∷ []) items

@@ -14,7 +14,7 @@ use Rattle.rk_world.specs.RoleTests.{is_rebuilding}
 pub data Post : Type 0 where
   -- it owns the tablet, from this place of its log on
   Owner : (place : ℕ) → Post
-  -- it gives the tablet away, and the coordinator was not told what the next owner has to know
+  -- it gives the tablet away, and the coordinator has no report yet of what the next owner has to know
   OpeningSource : Post
   -- it is to make ready for the tablet
   InvitedTarget : Post
@@ -46,7 +46,7 @@ rebuilder_post (first ∷ last ∷ more) master =
     else if last.master == master then LastRebuilder last.from
     else OutsideRebuilder
 
--- what the target is to a row that opens, by the place that it told
+-- what the target is to a row that opens, by the place that it reported
 abbrev pub target_post : Option ℕ → Post
 target_post None = InvitedTarget
 target_post (Some place) = ReadyTarget place
@@ -138,7 +138,7 @@ speaks (OnlyRebuilder place) handover term =
     is_serving handover.role || (is_rebuilding handover.role && nat_lt handover.term term)
 speaks _ handover term = is_serving handover.role
 
--- what a master has of a tablet still counts: the master lives, or it has the row's term, so that what it told before it
+-- what a master has of a tablet still counts: the master lives, or it has the row's term, so that what it reported before it
 -- crashed may still be taken
 abbrev pub StillCounts : Bool → ℕ → ℕ → Type 0
 StillCounts live own term = (live ≡ true) ⊎ (own ≡ term)

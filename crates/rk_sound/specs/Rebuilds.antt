@@ -1,5 +1,5 @@
 -- Rebuilds: what a rebuilding master read is the applied part of a log and maybe more, what it merged is what it read, and
--- what an earlier rebuild wrote that was given up tells nothing new. So no acknowledged call is lost with a master, and none
+-- what an earlier rebuild wrote that was given up adds nothing new. So no acknowledged call is lost with a master, and none
 -- comes back in another order; the steps that read, merge and take a Rebuilt need it.
 use Rattle.std.specs.Prelude.{◌≡◌, IfSome, ◌≤◌, ◌<◌, ℕ, suc, ◌-◌, ◌+◌, ◌==◌, ◌&&◌, Bool, true, false, not, nat_le, nat_lt, if◌then◌else◌, List, [], ◌∷◌, ◌++◌, None, Some, Contains, All, length, map, filter, take, drop, slice_index_or, slice_get, is_some, ⊤, ◌⊎◌, Option}
 use Rattle.std.specs.List.{prefix_len, list_any}
@@ -78,19 +78,19 @@ pub record HasItemMore (these those : List Entry) (entry : Entry) : Type 0 where
   pub wanted : Contains (items_of these) item
   pub new : Contains (items_of those) item → ⊥
 
--- an entry tells an end that these tell and those do not
+-- an entry records an end that these record and those do not
 pub record TellsEndMore (these those : List Entry) (entry : Entry) : Type 0 where
   pub end : Ended
   pub here : Contains (told_by entry) end
   pub wanted : Contains (told these) end
   pub new : Contains (told those) end → ⊥
 
--- an entry tells something that these tell and those do not
+-- an entry records something that these record and those do not
 abbrev pub TellsMore : List Entry → List Entry → Entry → Type 0
 TellsMore these those entry = HasItemMore these those entry ⊎ TellsEndMore these those entry
 
--- an entry of the last of two members that has to be read: it bears no mark, counts, and is the first there to tell something that the
--- first member's given up pieces tell, and its own entries, `own`, do not
+-- an entry of the last of two members that has to be read: it bears no mark, counts, and is the first there to record something that
+-- the first member's given up pieces record, and its own entries, `own`, do not
 pub record IsNeeded (range : Range) (given_up own : List Entry) (from : ℕ) (last : Written) (place : ℕ) (entry : Entry) : Type 0 where
   pub behind : from ≤ place
   pub stands : slice_get last.entries place ≡ Some entry
@@ -137,7 +137,7 @@ pub record IsGathered (Needed : EntryEnd → Type 0) (known : Known) (stored : �
   pub passed :
       gathered.main_read ≡ true → (segment : ℕ) → length gathered.main < segment → is_main segment ≡ true
       → known_length known segment ≡ 0
-  -- nor does anything stand behind them that is needed
+  -- nor is anything behind them needed
   pub passed_needed :
       gathered.main_read ≡ true → (end : EntryEnd) → Needed end → is_main end.segment ≡ true
       → end.segment ≤ length gathered.main
@@ -167,7 +167,7 @@ closing_carried handover merged = entries.Carried (record {
 })
 
 -- the piece of the log that a rebuild made, from the place on where its own entries count: the copies and then the entry that
--- closes it. It bears the only mark of the tablet there, and nothing of the range stands behind it
+-- closes it. It bears the only mark of the tablet there, and nothing of the range follows it
 pub record IsPieceOf (number from : ℕ) (handover : Handover) (merged : Merged) (written : Written) (entry : ℕ) : Type 0 where
   pub mark : Mark
   pub marked : Contains written.marks mark
@@ -181,8 +181,8 @@ pub record IsPieceOf (number from : ℕ) (handover : Handover) (merged : Merged)
       ≡ as_entries merged.copies ++ closing_carried handover merged ∷ []
   pub last : list_any (touches handover.range) (drop (suc entry) written.entries) ≡ false
 
--- what a master merged of a tablet is all that was gathered, member by member, where `own` is what counts of its own unmarked
--- entries; the tablet's counter and last ends are those of the merge
+-- what a master merged of a tablet is all that was gathered, member by member; `own` is what counts of its own unmarked
+-- entries. The tablet's counter and last ends are those of the merge
 pub record IsMergedOf (number from : ℕ) (own : List Entry) (handover : Handover) (kept : Completions) (gather : Gather) (ends : List Ended) (written : Written) (entry : ℕ) : Type 0 where
   pub gathered_all : next_reading gather ≡ None
   pub merged : Merged
@@ -210,7 +210,7 @@ abbrev pub merged_place : Role → Option ℕ
 merged_place (roles.Rebuilding from entry) = entry
 merged_place role = None
 
--- a master that rebuilds a row: `truth` is the row's, `own` counts of its own entries that are not marked, `Needed` tells what has to be
+-- a master that rebuilds a row: `truth` is the row's, `own` counts of its own entries that are not marked, `Needed` says what has to be
 -- read of each master, and `stored` and `known` what backup 1 stores of it, and is known to store
 pub record IsRebuilder (row : Row) (lineage : List Member) (master : ℕ) (truth own : List Entry) (Needed : ℕ → EntryEnd → Type 0) (known : ℕ → Known) (stored : ℕ → ℕ → List ℕ) (written : Written) (handover : Handover) (completions : Completions) (gathering : Gather) (ends : List Ended) (records : List Held) : Type 0 where
   pub range_is : handover.range ≡ row.range
@@ -231,7 +231,7 @@ pub record IsRebuilder (row : Row) (lineage : List Member) (master : ℕ) (truth
 
 -- ---- marks
 
--- entries tell nothing that others do not
+-- entries record nothing that others do not
 pub record TellNoMore (entries others : List Entry) : Type 0 where
   pub items : (item : Held) → Contains (items_of entries) item → Contains (items_of others) item
   pub ends : All (Contains (told others)) (told entries)
@@ -248,8 +248,8 @@ member_stored logs written stored range member =
     (unmarked_from (written member.master).marks member.from
     (take (stored_count (logs member.master) (stored_of stored member.master READ_BACKUP)) (written member.master).entries))
 
--- what a dead member has in marked pieces tells nothing new: its rebuild was given up, or is not told. Of two members the first one's
--- is told by its own unmarked entries or by what backup 1 stores of the last, and the last one's by the unmarked entries of either
+-- what a dead member has in marked pieces adds nothing new: its rebuild was given up, or is not reported. Of two members, the first's
+-- is also recorded by its own unmarked entries or by what backup 1 stores of the last, and the last's by the unmarked entries of either
 abbrev pub MarkedFit : (ℕ → Log) → (ℕ → Written) → (ℕ → Segments) → (ℕ → Bool) → Range → List Member → Type 0
 MarkedFit logs written stored live range [] = ⊤
 MarkedFit logs written stored live range (only ∷ []) =
@@ -267,7 +267,7 @@ abbrev pub has_merged : Role → Bool
 has_merged (roles.Rebuilding from entry) = is_some entry
 has_merged role = false
 
--- a marked piece stands behind its master's own entries: from it on there is no unmarked one of the range
+-- a marked piece comes behind its master's own entries: from it on there is no unmarked one of the range
 abbrev pub StandsLast : Range → Written → Mark → Type 0
 StandsLast range written mark =
     list_any (touches range) (unmarked_from written.marks mark.first written.entries) ≡ false

@@ -60,7 +60,7 @@ pub record IsFound (records : List Held) (item : Held) : Type 0 where
   pub same_key : is_of item.table item.key there ≡ true
   pub as_new : item.version ≤ there.version
 
--- what has come stands where it should: `items` are the source's, `own` those that the target applied itself, `sides` those
+-- what has come is where it should be: `items` are the source's, `own` those that the target applied itself, `sides` those
 -- that it copied
 pub record IsReceived (Arrived : Held → Type 0) (range : Range) (items own sides records : List Held) : Type 0 where
   -- what is copied is the source's, and what arrived is copied or outdone
@@ -106,7 +106,7 @@ pub record HasPulled (pulling : Pulling) : Type 0 where
   pub at_end : pulling.token ≡ end
   pub sealed : flat_map (λ items. items) pulling.sides ≡ []
 
--- the entry that begins what a target has of a tablet, by what the source told
+-- the entry that begins what a target has of a tablet, by what the source handed over
 abbrev pub beginning_of : Handover → Handed → Entry
 beginning_of handover handed = entries.Carried (record {
   range = handover.range;
@@ -120,7 +120,7 @@ abbrev pub closing_joined : Handover → List ℕ → Entry
 closing_joined handover sealed =
     entries.Joined (record { range = handover.range; term = handover.term; segments = sealed })
 
--- the entries before the closing entry, where there is one
+-- the entries before the closing entry, if there is one
 abbrev pub before_closing : Option ℕ → List Entry → List Entry
 before_closing None entries = entries
 before_closing (Some place) entries = take place entries
@@ -139,7 +139,7 @@ pub record IsTarget (range : Range) (source : ℕ) (truth material : List Entry)
   pub above :
       All (λ own. All (λ other. other.version < own.version) (items_of material))
       (items_of (entries_from range from written.entries))
-  -- its log has what the source told, before its closing entry
+  -- its log has what the source handed over, before its closing entry
   pub told :
       IfSome handed
       (λ h. Contains (drop from (before_closing (joined_place handover.role) written.entries)) (beginning_of handover h))
@@ -157,7 +157,7 @@ is_granted _ = false
 abbrev pub IsHandedBy : Option Handed → Handover → Completions → Type 0
 IsHandedBy handed handover completions = handed ≡ Some (record { floor = handover.counter; ends = ends_of completions })
 
--- what holds of the two members of a lineage, where the second one was granted the tablet
+-- what holds of the two members of a lineage, if the second one was granted the tablet
 abbrev pub MembersFit : Row → (ℕ → Written) → (ℕ → ℕ → Handover) → (ℕ → ℕ → Pulling) → (ℕ → List Held) → NumberMap Handed → List Member → Type 0
 MembersFit row written handovers pullings records handed (source ∷ target ∷ []) =
     is_granted (handovers target.master row.tablet).role ≡ true
@@ -185,7 +185,7 @@ NamedFit written range (first ∷ last ∷ []) =
     → Contains (items_of (member_truth written range first)) item
 NamedFit written range lineage = ⊤
 
--- a master that made ready for a tablet has nothing of it: its entries begin at this place, and none stands there, nor in its table
+-- a master that made ready for a tablet has nothing of it: its entries begin at this place, and none is there, nor in its table
 pub record IsBare (range : Range) (from : ℕ) (written : Written) (records : List Held) : Type 0 where
   pub placed : from ≤ length written.entries
   pub nothing : list_any (touches range) (drop from written.entries) ≡ false

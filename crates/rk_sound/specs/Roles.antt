@@ -12,13 +12,13 @@ use Rattle.rk_world.specs.RoleTests.{is_absent}
 use Rattle.rk_world.specs.Written.{Written}
 use Rattle.rk_sound.specs.Posts.{post_of, bond_of, Holds, StillCounts}
 
--- what a master has of a tablet, while that counts, fits its post, where so many of its entries are applied
+-- what a master has of a tablet, while that counts, fits its post, with so many of its entries applied
 abbrev pub RoleFits : Row → ℕ → Handover → ℕ → Type 0
 RoleFits row master handover applied =
     Holds (bond_of (post_of row.phase master) handover.role) row.term handover.term applied
 
--- who hands a tablet over, and who takes it, keep the row's term, dead or alive: the one once it has told what it hands over, the
--- other once it has told its place
+-- who hands a tablet over, and who takes it, keep the row's term, dead or alive: the one once it has reported what it hands over,
+-- the other once it has reported its place
 abbrev pub KeepTerm : Phase → (ℕ → ℕ) → ℕ → Type 0
 KeepTerm (Opening source sfrom target (Some dfrom)) terms term = terms target ≡ term
 KeepTerm (Moving source sfrom target dfrom) terms term = (terms source ≡ term) × (terms target ≡ term)

@@ -1,5 +1,5 @@
 -- Small changes of the world that the first laws are about, and what they make of a view. A change of a view has the name of the
--- change of the world, and its condition stands in `Changes` or `Moves`.
+-- change of the world, and its condition is in `Changes` or `Moves`.
 use Rattle.std.specs.Prelude.{◌==◌, ℕ, ◌+◌, if◌then◌else◌, List, [], ◌∷◌, ◌++◌, length, slice_get, Option, Some, Bool}
 use Rattle.rk_types.specs.NumberMap.{insert, remove, get}
 use Rattle.rk_types.specs.declared.call.Call.{Call}
@@ -42,11 +42,11 @@ use Rattle.rk_world.specs.World.{World, log_in, master_at, tablet_in, with_maste
 use Rattle.rk_sound.specs.View.{View}
 use Rattle.rk_sound.specs.Receives.{closing_joined}
 
--- what is kept for each number, where this is kept for one of them now
+-- what is kept for each number, now that this is kept for one of them
 abbrev pub put : {X : Type 0} → (ℕ → X) → ℕ → X → ℕ → X
 put old number thing q = if q == number then thing else old q
 
--- what each master keeps of each tablet, where one keeps this of one of them now
+-- what each master keeps of each tablet, now that one master keeps this of one of them
 abbrev pub put2 : {X : Type 0} → (ℕ → ℕ → X) → ℕ → ℕ → X → ℕ → ℕ → X
 put2 old master number thing = put old master (put (old master) number thing)
 
@@ -105,7 +105,7 @@ abbrev pub bytes_stored_in : World → ℕ → ℕ → ℕ → List ℕ → Worl
 bytes_stored_in w master backup segment bytes =
     with_stored_by w backup (λ segments. with_more segments master segment bytes) (get w.backups backup)
 
--- a master is told that a backup stores so many bytes of a segment of its log
+-- a backup reports to a master that it stores so many bytes of a segment of its log
 abbrev pub length_told : View → ℕ → ℕ → ℕ → ℕ → View
 length_told v master backup segment size =
     record v { logs = put v.logs master (with_told (v.logs master) backup segment size) }
@@ -197,7 +197,7 @@ abbrev pub tablet_owned_in : World → ℕ → ℕ → World
 tablet_owned_in w master tablet =
     with_master w master (tablet_owned (master_at w master) tablet (as_serving (tablet_in w master tablet).handover))
 
--- a handover of a target whose closing entry stands at a place
+-- a handover of a target whose closing entry is at a place
 abbrev pub as_closed : ℕ → Handover → Handover
 as_closed place handover = record handover { role = roles.Joining (Some place) }
 
@@ -219,7 +219,7 @@ closing_appended_in w master tablet =
 
 -- ---- what a tablet pulls
 
--- what is pulled, where the token, the count of batches and the hashes go on
+-- what is pulled, once the token, the count of batches and the hashes go on
 abbrev pub gone_on : (Pulling → Token) → (Pulling → ℕ) → (Pulling → Hashes) → Pulling → Pulling
 gone_on token batches hashes pulling =
     record pulling { token = token pulling; batches = batches pulling; hashes = hashes pulling }
@@ -257,7 +257,7 @@ passing next = gone_on (λ p. next) (λ p. p.batches + 1) (λ p. p.hashes)
 abbrev pub token_passed_in : World → ℕ → ℕ → Token → World
 token_passed_in w master tablet next = with_master w master (token_passed (master_at w master) tablet next)
 
--- an item is replayed at a master, for a tablet: it goes into the records, where it is newer than what is there, and to the worker's items
+-- an item is replayed at a master, for a tablet: it goes into the records, if it is newer than what is there, and to the worker's items
 abbrev pub replayed : View → ℕ → ℕ → ℕ → Held → View
 replayed v master tablet worker item = record v {
   records = put v.records master (with_newer item (v.records master));

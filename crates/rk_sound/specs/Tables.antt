@@ -39,7 +39,7 @@ HasItems row written records =
     (λ member. IsTableOf row.range (member_truth written row.range member) records)
 
 pub record Tables (rows : List Row) (written : ℕ → Written) (handovers : ℕ → ℕ → Handover) (records : ℕ → List Held) (live : ℕ → Bool) : Type 0 where
-  -- records are in scan order, so no key stands there twice
+  -- records are in scan order, so no key is there twice
   pub ordered : (master : ℕ) → IsInScanOrder (records master)
   pub items :
       (master : ℕ) → live master ≡ true

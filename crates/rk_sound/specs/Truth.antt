@@ -1,4 +1,4 @@
--- Truth: the journal is a lawful history, and the applied logs of a row's lineage tell just the records that it leaves. A
+-- Truth: the journal is a lawful history, and the applied logs of a row's lineage give just the records that it leaves. A
 -- read answers from them, and a rebuild has nothing else; each step that applies, joins or takes a rebuild needs it.
 use Rattle.std.specs.Prelude.{◌≡◌, ◌<◌, ℕ, List, Option, Some, None, All, ⊤}
 use Rattle.rk_types.specs.declared.history.Placed.{Placed}
@@ -14,7 +14,7 @@ use Rattle.rk_world.specs.Ends.{items_of}
 use Rattle.rk_world.specs.Base.{Base, base_map}
 use Rattle.rk_world.specs.declared.ledger.LastCall.{LastCall}
 
--- the truth of a row tells the records that the journal leaves in the row's range
+-- the truth of a row gives the records that the journal leaves in the row's range
 pub record IsTruth (base : Base) (range : Range) (truth : List Entry) (journal : List Placed) : Type 0 where
   pub plain : IsPlain (items_of truth)
   pub live : AgreeIn range (live_items (items_of truth)) (live_after (base_map base) journal)

@@ -74,7 +74,7 @@ AskedOf v = Asked v.base v.lane v.asked v.requests v.journal v.wire
 
 -- ---- all parts
 
--- each part holds of a view, where the rows have these truths and these rests
+-- each part holds of a view, with these truths and these rests of its rows
 pub record SoundParts (v : View) (truths rests : Row → List Entry) : Type 0 where
   pub nodes : NodesOf v
   pub rows : RowsOf v

@@ -1,4 +1,4 @@
 //! The invariant of a lane: what holds of its world between any two small changes, part by part, and the conditions of these changes.
 //!
-//! It stands on the definitions of `rk_world`, one file a part in `specs`; that changes keep it is proved in `rk_inv_base`.
+//! It builds on the definitions of `rk_world`, one file per part in `specs`; that changes keep it is proved in `rk_inv_base`.
 #![tactic(auto)]

@@ -19,7 +19,7 @@ abbrev pub with_stored : Segments → ℕ → ℕ → Option (List ℕ) → Segm
 with_stored segments master segment stored m s =
     if m == master && (s == segment) then stored else segments m s
 
--- the bytes that an append adds: what goes past the stored ones, where it begins within them or at their end and is equal
+-- the bytes that an append adds: what goes past the stored ones, if it begins within them or at their end and is equal
 -- as far as both go
 abbrev pub added_by : Segments → ℕ → Append → List ℕ
 added_by segments master append = added append.at append.bytes (bytes_of (segments master append.segment))
@@ -33,7 +33,7 @@ with_more segments master segment bytes =
 pub data Called : Type 0 where
   -- an append went well, or had nothing to store, and the segment has so many bytes now
   Appended : (length : ℕ) → Called
-  -- a read gave these bytes; none where the segment was never written
+  -- a read gave these bytes; none if the segment was never written
   Gave : (bytes : Option (List ℕ)) → Called
   -- the replica failed; an append may have stored so many first bytes of those that were new
   Failed : (stored : ℕ) → Called
@@ -54,10 +54,10 @@ abbrev pub stored_after : Segments → Node → Body → Called → Segments
 stored_after segments (nodes.Master master) (bodies.Append append) called = append_taken segments master append called
 stored_after segments sender body called = segments
 
--- ---- what a replica that tells its segments answers, where `fault` tells whether it fails, and how many bytes an append stores
+-- ---- what a replica that reports its segments answers; `fault` says whether it fails, and how many bytes an append stores
 -- then
 
--- whether an append calls the replica: it does where bytes come that begin where bytes are stored or at their end
+-- whether an append calls the replica: it does if it has bytes and they begin within the stored ones or at their end
 abbrev pub calls_replica : ℕ → Append → Bool
 calls_replica stored append = nat_le append.at stored && nat_lt 0 (length append.bytes)
 
@@ -88,8 +88,8 @@ common_front [] ys = []
 common_front (x ∷ xs) [] = []
 common_front (x ∷ xs) (y ∷ ys) = if x == y then x ∷ common_front xs ys else []
 
--- the bytes of a copy: of what was read the longest first part that is also one of the log's segment; none where the
--- segment was never written or the log has none
+-- the bytes of a copy: of what was read, the longest first part that is also a first part of the log's segment; none if the segment
+-- was never written or the log has none
 abbrev pub copied : Option (List ℕ) → List ℕ → Option (List ℕ)
 copied None segment = None
 copied (Some read) [] = None
@@ -100,7 +100,7 @@ pub record Backed : Type 0 where
   pub sends : List Message
   pub lost : Bool
 
--- nothing is told
+-- nothing is sent
 abbrev pub idle : Backed
 idle = record { sends = []; lost = false }
 
@@ -115,14 +115,14 @@ answering_master backup master body = record {
   lost = false;
 }
 
--- a backup took an Append, and tells how much is stored
+-- a backup took an Append, and reports how much is stored
 abbrev pub append_step : ℕ → ℕ → Append → Called → Backed
 append_step backup master append (Appended length) =
     answering_master backup master (bodies.Stored (record { segment = append.segment; length = length }))
 append_step backup master append (Gave bytes) = idle
 append_step backup master append (Failed stored) = failing
 
--- a backup takes a Read, where `log` has the segments of each master's log
+-- a backup takes a Read; `log` has the segments of each master's log
 abbrev pub read_step : ℕ → ℕ → ReadSegment → (ℕ → ℕ → List ℕ) → Called → Backed
 read_step backup master read log (Appended length) = idle
 read_step backup master read log (Gave bytes) =
@@ -140,7 +140,7 @@ master_message backup master (bodies.Append append) log called = append_step bac
 master_message backup master (bodies.Read read) log called = read_step backup master read log called
 master_message backup master body log called = idle
 
--- a backup takes a message, by its sender and by what the call of its replica came to, where one is made
+-- a backup takes a message, by its sender and by what the call of its replica came to, if one is made
 abbrev pub backup_step : ℕ → Node → Body → (ℕ → ℕ → List ℕ) → Called → Backed
 backup_step backup (nodes.Master master) body log called = master_message backup master body log called
 backup_step backup sender body log called = idle

@@ -34,7 +34,7 @@ newest_entry (Some item) = map_entry_of item item.value
 abbrev pub base_map : Base → Map
 base_map base table key = newest_entry (newest base.items table key)
 
--- the ends that a base tells: those that it has, and those of the calls that left its items
+-- the ends that a base records: those that it has, and those of the calls that left its items
 abbrev pub ends_told : Base → List Ended
 ends_told base = base.ends ++ map item_end base.items
 

@@ -42,7 +42,7 @@ abbrev pub is_asked : Ledger → Session → Call → Bool
 is_asked ledger session call =
     is_last call session.seen (asked_by ledger session.client) && not (is_accepted ledger.journal session.client call.seq)
 
--- whether the lane takes a new call of a client: it was asked none, or the one that it was asked is older and accepted
+-- whether the lane takes a new call of a client: it was asked none, or the last call that it was asked is older and accepted
 abbrev pub is_next : Ledger → Session → Call → Option LastCall → Bool
 is_next ledger session call None = true
 is_next ledger session call (Some asked) =

@@ -25,8 +25,8 @@ abbrev pub MOST_REQUESTS : ℕ
 MOST_REQUESTS = 3
 
 -- a client's session: its receipts, oldest first; the seq of its last call; its outstanding call; the highest stamp that it
--- has seen; how many requests of that call it sent since it last looked up or was told where; the ranges that it cached, by lane; and
--- the lane in which it sent its last request
+-- has seen; how many requests of that call it sent since it last looked up the key or learned where it is; the ranges that it cached,
+-- by lane; and the lane in which it sent its last request
 pub record Session : Type 0 where
   pub client : ℕ
   pub receipts : List Receipt
@@ -59,7 +59,7 @@ next_call session table key op =
 abbrev pub busy : Session → Option ℕ
 busy session = option_map (λ call. call.seq) session.outstanding
 
--- a client asks its next call, where none is outstanding
+-- a client asks its next call, if none is outstanding
 abbrev pub with_next_call : Session → ℕ → List ℕ → Op → Session
 with_next_call session table key op = record session {
   last = session.last + 1;
@@ -139,7 +139,7 @@ requesting session call tablet master = record {
   message = request_of session call tablet master;
 }
 
--- a request to the owner of a cached range; where it has none, the key is looked up
+-- a request to the owner of a cached range; if it has none, the key is looked up
 abbrev pub turn_to : Session → Call → ℕ → Option ℕ → ClientTurn
 turn_to session call tablet (Some master) = requesting session call tablet master
 turn_to session call tablet None = looking_up session call
@@ -150,7 +150,7 @@ turn_by session call None = looking_up session call
 turn_by session call (Some located) =
     if session.requests == MOST_REQUESTS then looking_up session call else turn_to session call located.tablet located.owner
 
--- the turn of a client; none where no call is outstanding
+-- the turn of a client; none if no call is outstanding
 abbrev pub turn_of : Session → Option Call → Option ClientTurn
 turn_of session None = None
 turn_of session (Some call) = Some (turn_by session call (range_of session call))
@@ -168,12 +168,12 @@ pub record Accepted : Type 0 where
 abbrev pub ignoring : Session → Accepted
 ignoring session = record { session = session; taken = taken.Ignored }
 
--- a range as a list, where it has an owner
+-- a range as a list, empty if it has no owner
 abbrev pub owned_range : Located → Option ℕ → List Located
 owned_range located None = []
 owned_range located (Some owner) = located ∷ []
 
--- a range is cached in place of those that it meets, where it has an owner
+-- a range is cached, if it has an owner, in place of those that it meets
 abbrev pub with_range : Session → ℕ → Located → Session
 with_range session lane located = record session {
   ranges =
@@ -183,7 +183,7 @@ with_range session lane located = record session {
   requests = 0;
 }
 
--- the client learns where a range is, where that range has its key
+-- the client learns where a range is, if that range has the key of its call
 abbrev pub located_accepted : Session → Call → Located → Accepted
 located_accepted session call located =
     if has_call call located

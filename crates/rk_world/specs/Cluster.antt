@@ -1,5 +1,5 @@
--- A cluster: the lanes, and the sessions of the clients that act in them. Its history is the one that the journals of all lanes
--- make, and its callers are the sessions.
+-- A cluster: the lanes, and the sessions of the clients that act in them. Its history is what the journals of all lanes make
+-- together, and its callers are the sessions.
 use Rattle.std.specs.Prelude.{◌<◌, ℕ, List, [], ◌∷◌, length, map, fold, None, Option, Some, Result, Ok, Err, IfSome, All, slice_index_or, slice_set, ⊤}
 use Rattle.std.specs.Int.{w32}
 use Rattle.std.specs.List.{range_with_len}
@@ -27,7 +27,7 @@ pub record Cluster : Type 0 where
   pub lanes : List World
   pub sessions : NumberMap Session
 
--- a cluster of eight lanes where nothing has happened, with so many masters and backups
+-- a cluster of eight lanes in which nothing has happened, with so many masters and backups
 abbrev pub new_cluster : ℕ → ℕ → Cluster
 new_cluster masters backups = record {
   lanes = map (λ lane. new_world lane masters backups) (range_with_len 0 LANES);
@@ -63,12 +63,12 @@ pub data Occurrence : Type 0 where
   -- a client takes a message of a lane
   Accepts : (lane number client : ℕ) → Occurrence
 
--- the cluster after an event of a lane; one that is refused changes nothing
+-- the cluster after an event of a lane; a refused event changes nothing
 abbrev pub cluster_stepped : Cluster → ℕ → Result Stepped StepError → Cluster
 cluster_stepped cluster lane (Ok stepped) = with_lane cluster lane stepped.world
 cluster_stepped cluster lane (Err error) = cluster
 
--- the cluster after a client's turn or answer in a lane; one that is refused changes nothing
+-- the cluster after a client's turn or answer in a lane; if that is refused, nothing changes
 abbrev pub cluster_visited : Cluster → ℕ → ℕ → Result Visited StepError → Cluster
 cluster_visited cluster lane client (Ok visited) =
     with_session (with_lane cluster lane visited.world) client visited.session
@@ -136,7 +136,7 @@ callers_of cluster client =
     record { receipts = (session_at cluster client).receipts; outstanding = (session_at cluster client).outstanding }
 
 -- the journals of a cluster merge into one legal history of one map that starts empty, and that history is ordered with the sessions:
--- each call that was acknowledged stands in it once, in its caller's order
+-- each call that was acknowledged is in it once, in its caller's order
 pub record HasOneHistory (cluster : Cluster) : Type 0 where
   pub legal : IsLegal empty_map (records_of (merged (journals_of cluster)))
   pub ordered : IsOrdered (journals_of cluster) (merged (journals_of cluster)) (callers_of cluster)

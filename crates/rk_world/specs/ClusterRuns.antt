@@ -1,9 +1,9 @@
--- Runs of a cluster: lists of occurrences that may come, where replicas answer what they store.
+-- Runs of a cluster: lists of occurrences that may come, in which replicas answer what they store.
 use Rattle.std.specs.Prelude.{List, [], ◌∷◌, ⊤}
 use Rattle.rk_world.specs.Cluster.{Cluster, ClusterMay, Happens, KeepsCalm, Occurrence, cluster_after, lane_at}
 use Rattle.rk_world.specs.Replicas.{AllTell, IsTold}
 
--- where all backups of a lane tell what they store, an event comes with what their replicas answer, one of which may fail
+-- if all backups of a lane report what they store, an event comes with what their replicas answer, one of which may fail
 abbrev pub ReplicasTell : Cluster → Occurrence → Type 0
 ReplicasTell cluster (Happens lane event called) = AllTell (lane_at cluster lane) → IsTold (lane_at cluster lane) event called
 ReplicasTell cluster occurrence = ⊤

@@ -1,4 +1,4 @@
--- Commits: what a master makes of what a backup tells. What every backup holds by then is applied, entry by entry: an item goes
+-- Commits: what a master makes of what a backup reports. What every backup holds by then is applied, entry by entry: an item goes
 -- into the records, and the client of a call is told how it ended.
 use Rattle.std.specs.Prelude.{ℕ, ◌+◌, ◌&&◌, not, if◌then◌else◌, List, [], ◌∷◌, take, drop, map, Option, Some, None}
 use Rattle.rk_types.specs.NumberMap.{get, remove}
@@ -20,7 +20,7 @@ use Rattle.rk_world.specs.Worked.{Worked, changed, then_works}
 use Rattle.rk_world.specs.Requests.{answering}
 use Rattle.rk_world.specs.Waiting.{all_going_on}
 
--- the records after an entry was applied: an item goes into them where it is newer
+-- the records after an entry was applied: an item goes into them if it is newer
 abbrev pub with_entry_item : Master → Entry → Master
 with_entry_item master (entries.Held held) = with_item master held
 with_entry_item master _ = master
@@ -45,7 +45,7 @@ without_call master place = record master { calls = remove master.calls place }
 abbrev pub with_applied : Master → Master
 with_applied master = record master { applied = master.applied + 1 }
 
--- a call ends so: its client is told
+-- a call ends so: its client is answered
 abbrev pub ended_call : Master → ℕ → Call → Ended → Worked
 ended_call master place call end = record {
   master = without_call (with_noted master call end) place;
@@ -54,7 +54,7 @@ ended_call master place call end = record {
   marked = [];
 }
 
--- the call that waited for an entry at a place ends as the entry tells; nothing waited for a copied item, a Carried or a
+-- the call that waited for an entry at a place ends as the entry records; nothing waited for a copied item, a Carried or a
 -- Joined
 abbrev pub with_ended : Master → ℕ → Option Call → List Ended → Worked
 with_ended master place (Some call) (end ∷ ends) = ended_call master place call end
@@ -75,7 +75,7 @@ apply_entries master (entry ∷ entries) = then_works (apply_entry master entry)
 abbrev pub newly_held : Master → List Entry
 newly_held master = drop master.applied (take (committed master.log) master.log.entries)
 
--- a backup told that it holds so much of a segment: what every backup holds by then is applied, and what waited
+-- a backup reported that it holds so much of a segment: what every backup holds by then is applied, and what waited
 -- for it goes on
 abbrev pub told_length : Master → ℕ → Stored → Worked
 told_length master backup stored =

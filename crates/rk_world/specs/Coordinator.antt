@@ -1,4 +1,4 @@
--- The coordinator: the rows of its tablet map, who was noticed dead, what sources told; and the small changes of these.
+-- The coordinator: the rows of its tablet map, who was noticed dead, what sources handed over; and the small changes of these.
 use Rattle.std.specs.Prelude.{ℕ, ◌+◌, ◌==◌, Bool, not, List, [], find, Option, Some, None, unwrap_or}
 use Rattle.std.specs.List.{list_any, range_with_len}
 use Rattle.rk_types.specs.NumberMap.{NumberMap, insert}
@@ -14,13 +14,13 @@ use Rattle.rk_message.specs.declared.handover.Tenure.{Tenure}
 use Rattle.rk_message.specs.declared.message.Body.{Body}
 use Rattle.rk_message.specs.declared.message.Message.{Message}
 
--- what a source told when its tablet froze: a number above each version, and the last end of each client
+-- what a source handed over when its tablet froze: a number above each version, and the last end of each client
 pub record Handed : Type 0 where
   pub floor : ℕ
   pub ends : List Ended
 
 -- the coordinator: how many masters there are, the rows by rising tablet, the masters that it noticed dead, and what the
--- sources told of the tablets that move
+-- sources handed over of the tablets that move
 pub record Coordinator : Type 0 where
   pub masters : ℕ
   pub rows : List Row
@@ -50,7 +50,7 @@ abbrev pub with_term : Coordinator → Row → Phase → Coordinator
 with_term coordinator row phase =
     record coordinator { rows = changed_rows coordinator.rows row.tablet (row.term + 1) phase }
 
--- what a source told is noted for the grant
+-- what a source handed over is noted for the grant
 abbrev pub with_handed : Coordinator → ℕ → Handed → Coordinator
 with_handed coordinator tablet handed = record coordinator { handed = insert coordinator.handed tablet handed }
 

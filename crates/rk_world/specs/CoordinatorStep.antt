@@ -18,8 +18,8 @@ use Rattle.rk_message.specs.declared.message.Message.{Message}
 use Rattle.rk_message.specs.declared.rebuilding.Rebuilt.{Rebuilt}
 use Rattle.rk_world.specs.Coordinator.{Coordinator, is_noticed, with_phase, with_handed, from_coordinator, row_tenure, owner_of, Handed}
 
--- what the coordinator makes of a message: the coordinator after it, what it sends, and the rebuild that it took, where a
--- master told one that the row waited for
+-- what the coordinator makes of a message: the coordinator after it, what it sends, and the rebuild that it took, if a
+-- master reported a rebuild that the row waited for
 pub record Coordinated : Type 0 where
   pub coordinator : Coordinator
   pub sends : List Message
@@ -33,7 +33,7 @@ unanswered coordinator = record { coordinator = coordinator; sends = []; rebuilt
 abbrev pub answered : Coordinator → List Message → Coordinated
 answered coordinator sends = record { coordinator = coordinator; sends = sends; rebuilt = None }
 
--- the answer to a look-up, where a row has the hash
+-- the answer to a look-up, if a row has the hash
 abbrev pub located : Node → Option Row → List Message
 located sender None = []
 located sender (Some row) =
@@ -44,7 +44,7 @@ abbrev pub lookup_taken : Coordinator → Node → Lookup → Coordinated
 lookup_taken coordinator sender lookup =
     answered coordinator (located sender (row_with coordinator.rows lookup.table lookup.hash))
 
--- the row of a tenure, where it is at that term
+-- the row of a tenure, if it is at that term
 abbrev pub at_term : Tenure → Option Row → Option Row
 at_term tenure None = None
 at_term tenure (Some row) = if row.term == tenure.term then Some row else None
@@ -59,7 +59,7 @@ abbrev pub place_noted : Coordinator → Row → ℕ → ℕ → ℕ → ℕ →
 place_noted coordinator row source sfrom target place =
     with_phase coordinator row (Opening source sfrom target (Some place))
 
--- a row moves, and what its source told is noted
+-- a row moves, and what its source handed over is noted
 abbrev pub row_moved : Coordinator → Row → ℕ → ℕ → ℕ → ℕ → Handed → Coordinator
 row_moved coordinator row source sfrom target dfrom handed =
     with_handed (with_phase coordinator row (Moving source sfrom target dfrom)) row.tablet handed
@@ -85,15 +85,15 @@ transfer_in coordinator sender message row (Opening source sfrom target (Some df
     else unanswered coordinator
 transfer_in coordinator sender message row _ = unanswered coordinator
 
--- a master is told that the tablet is its own
+-- the message to a master that the tablet is its own
 abbrev pub own_to : ℕ → Row → Message
 own_to master row = from_coordinator (nodes.Master master) (bodies.Own (row_tenure row))
 
--- a master is told that the tablet is another's
+-- the message to a master that the tablet is another's
 abbrev pub release_to : ℕ → Row → Message
 release_to master row = from_coordinator (nodes.Master master) (bodies.Release (row_tenure row))
 
--- the owner is told again, where it has missed it
+-- the owner is sent its Own again, in case it has missed it
 abbrev pub told_again : Coordinator → ℕ → Row → ℕ → Coordinated
 told_again coordinator sender row master =
     if sender == master then answered coordinator (own_to master row ∷ []) else unanswered coordinator
@@ -107,7 +107,7 @@ joined_in coordinator sender row (Moving source sfrom target dfrom) =
 joined_in coordinator sender row (Owned master from) = told_again coordinator sender row master
 joined_in coordinator sender row _ = unanswered coordinator
 
--- the tablet is rebuilt: the rebuilding master owns it, and what it told is taken
+-- the tablet is rebuilt: the rebuilding master owns it, and what it reported is taken
 abbrev pub rebuilt_in : Coordinator → ℕ → Rebuilt → Row → Phase → Coordinated
 rebuilt_in coordinator sender message row (Rebuilding lineage to) =
     if sender == to
@@ -120,7 +120,7 @@ rebuilt_in coordinator sender message row (Rebuilding lineage to) =
 rebuilt_in coordinator sender message row (Owned master from) = told_again coordinator sender row master
 rebuilt_in coordinator sender message row _ = unanswered coordinator
 
--- what is made of a message of a master about a row, if there is one that it speaks of
+-- what is made of a message of a master about a row, if it speaks of one
 abbrev pub about : Coordinator → (Row → Coordinated) → Option Row → Coordinated
 about coordinator taken None = unanswered coordinator
 about coordinator taken (Some row) = taken row

@@ -1,4 +1,4 @@
--- How calls ended: what the entries of a log tell of it, and the last end of each client.
+-- How calls ended: what the entries of a log record of it, and the last end of each client.
 use Rattle.std.specs.Prelude.{ℕ, if◌then◌else◌, List, [], ◌∷◌, Option, Some, None}
 use Rattle.std.specs.List.{flat_map}
 use Rattle.rk_types.specs.declared.call.End.{End}
@@ -11,7 +11,7 @@ use Rattle.rk_entry.specs.declared.entry.Entry.{Entry}
 use Rattle.rk_entry.specs.declared.entry.Entry.TheVariants as entries
 use Rattle.rk_entry.specs.declared.entry.Refused.{Refused}
 
--- the outcome that an end tells
+-- the outcome that an end gives
 abbrev pub outcome_of : End → Outcome
 outcome_of (ends.Written version) = outcomes.Written version
 outcome_of (ends.Deleted version) = outcomes.Deleted version
@@ -35,14 +35,14 @@ end_of_refusal refused = if refused.absent then ends.Absent else ends.Mismatch r
 abbrev pub refusal_end : Refused → Ended
 refusal_end refused = record { client = refused.client; seq = refused.seq; end = end_of_refusal refused }
 
--- the ends that an entry tells
+-- the ends that an entry records
 abbrev pub told_by : Entry → List Ended
 told_by (entries.Held held) = item_end held ∷ []
 told_by (entries.Refused refused) = refusal_end refused ∷ []
 told_by (entries.Carried carried) = carried.ends
 told_by (entries.Joined joined) = []
 
--- the ends that entries tell, in their order
+-- the ends that entries record, in their order
 abbrev pub told : List Entry → List Ended
 told entries = flat_map told_by entries
 

@@ -32,7 +32,7 @@ abbrev pub own_entries : World → Row → Member → List Entry
 own_entries w row member =
     counting row.range (drop member.from (applied_entries (written_in w member.master)))
 
--- the message of this number tells the coordinator that the target of a row has all
+-- the message of this number reports to the coordinator that the target of a row has all
 pub record TellsJoined (w : World) (number : ℕ) (row : Row) (target : ℕ) : Type 0 where
   pub message : Message
   pub there : get w.wire.messages number ≡ Some message

@@ -1,5 +1,5 @@
 -- Well formed: what the code of a lane needs of its world, below soundness. Maps are in order, what is named is there, no number is
--- greater than the greatest that has stood, and what stands in logs, messages and sessions can be spelled. Nothing here reads
+-- greater than the greatest so far, and what is in logs, messages and sessions can be spelled. Nothing here reads
 -- what a backup stores.
 use Rattle.std.specs.Prelude.{◌≡◌, ◌≤◌, ◌<◌, ℕ, true, false, List, [], ◌∷◌, ◌++◌, length, map, max, All, IfSome, None, unwrap_or}
 use Rattle.std.specs.Int.{w32, w64}
@@ -58,7 +58,7 @@ pub record AreSideSegments (segments : List ℕ) : Type 0 where
   pub each : All (IsNumber w32 FIRST_SIDE_SEGMENT) segments
   pub distinct : IsDistinct nat_eq segments
 
--- the place that a role knows of the master's log, 0 where it knows none
+-- the place that a role knows of the master's log, 0 if it knows none
 abbrev pub place_in : Role → ℕ
 place_in (roles.Wanting from) = from
 place_in (roles.Rebuilding from entry) = from
@@ -149,7 +149,7 @@ pub record IsFormedRow (limits : Limits) (row : Row) : Type 0 where
   pub named : All (IsFormedMember limits) (named_in row.phase)
   pub few : length (lineage_of row.phase) ≤ 2
 
--- what a source told
+-- what a source handed over
 pub record IsFormedHanded (limits : Limits) (handed : Handed) : Type 0 where
   pub floor : IsFormedNumber limits handed.floor
   pub told : IsFormedEnds limits handed.ends
@@ -187,7 +187,7 @@ pub record IsFormedWire (limits : Limits) (wire : Traffic) : Type 0 where
   pub numbered : HasSentNumbers wire
   pub each : EachIn (λ number message. IsFormedMessage limits message) wire.messages
 
--- how many clients a history's start may tell of
+-- how many clients a history's start may name
 abbrev pub MOST_BASE_CLIENTS : ℕ
 MOST_BASE_CLIENTS = 2000
 
@@ -208,12 +208,12 @@ pub record IsWellFormed (w : World) : Type 0 where
   pub coordinator : IsFormedCoordinator (limits_of w) w.coordinator
   pub ledger : IsFormedLedger (limits_of w) w.base w.lane w.ledger
   pub wire : IsFormedWire (limits_of w) w.wire
-  -- where one has crashed, another one is left; who was noticed dead has crashed
+  -- if one has crashed, another one is left; who was noticed dead has crashed
   pub crashed : All (IsMaster w.coordinator.masters) w.crashed
   pub left : (master : ℕ) → has_crashed w master ≡ true → SomeLives w
   pub noticed : All (λ master. has_crashed w master ≡ true) w.coordinator.noticed
-  -- what the history starts from lies in rows, and tells of few clients
+  -- what the history starts from lies in rows, and names few clients
   pub base : All (λ item. is_covered w.coordinator.rows item.table (hash_of item.key) ≡ true) w.base.items
   pub few_base_clients : length (base_clients w.base) ≤ MOST_BASE_CLIENTS
-  -- no number that stands is greater than the greatest
+  -- no number that may grow is greater than the greatest so far
   pub standing : All (λ number. number ≤ w.top) (standing w)

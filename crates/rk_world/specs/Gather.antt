@@ -43,7 +43,7 @@ gather_begun range lineage own = record {
 abbrev pub no_gather : Gather
 no_gather = gather_begun (record { table = 0; first = 0; last = 0 }) [] 0
 
--- the entries of a member from its place on, each segment up to the first place where no whole entry stands
+-- the entries of a member from its place on, each segment up to the first place without a whole entry
 abbrev pub main_entries : Gathered → List Entry
 main_entries gathered = drop gathered.member.from (flat_map (λ entries. entries) gathered.main)
 
@@ -51,7 +51,7 @@ main_entries gathered = drop gathered.member.from (flat_map (λ entries. entries
 abbrev pub side_read : Gathered → ℕ → List Entry
 side_read gathered segment = get_or [] gathered.sides segment
 
--- the side segment that is read next: the first one that the main entries name and that was not read
+-- the side segment that is read next: the first that the main entries name and that was not read
 abbrev pub next_side : Range → Gathered → Option ℕ
 next_side range gathered =
     find (λ segment. not (is_some (get gathered.sides segment))) (named range (main_entries gathered))
@@ -71,11 +71,11 @@ next_of range [] = None
 next_of range (gathered ∷ others) =
     option_or (option_map (reading_of gathered) (next_segment range gathered)) (next_of range others)
 
--- what is read next; none where all is gathered
+-- what is read next; none once all is gathered
 abbrev pub next_reading : Gather → Option Reading
 next_reading gather = next_of gather.range gather.members
 
--- whether the segment of a master is the one that is read next
+-- whether this segment of a master is read next
 abbrev pub is_awaited : Option Reading → ℕ → ℕ → Bool
 is_awaited None master segment = false
 is_awaited (Some reading) master segment = reading.master == master && (reading.segment == segment)

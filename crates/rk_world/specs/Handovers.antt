@@ -47,7 +47,7 @@ with_others_given_up master number range = record master {
       master.tablets;
 }
 
--- a tablet makes a move, where it applies; what was gathered and merged is needed no more
+-- a tablet makes a move, if it applies; what was gathered and merged is needed no more
 abbrev pub with_move : Master → ℕ → Option Handover → Master
 with_move master number None = master
 with_move master number (Some handover) =
@@ -90,7 +90,7 @@ transfer master tenure tablet =
     from_master master nodes.Coordinator
     (bodies.Transfer (record { tenure = tenure; floor = tablet.handover.counter; ends = ends_of tablet.completions }))
 
--- a master whose tablet is frozen at this term tells what the next owner has to know
+-- a master whose tablet is frozen at this term reports what the next owner has to know
 abbrev pub transferring : Master → Tenure → Worked
 transferring master tenure =
     let tablet = tablet_at master tenure.tablet in
@@ -100,7 +100,7 @@ transferring master tenure =
 abbrev pub tablet_closed : Master → ℕ → Handover → Master
 tablet_closed master number handover = with_move master number (Some handover)
 
--- a tablet closes, and is frozen at once where nothing of it is staged
+-- a tablet closes, and is frozen at once if nothing of it is staged
 abbrev pub closing : Master → ℕ → Option Handover → Master
 closing master number None = master
 closing master number (Some handover) =
@@ -121,7 +121,7 @@ carried_entry handover grant = entries.Carried (record {
   ends = grant.ends;
 })
 
--- a tablet is served from now on, by what its source told
+-- a tablet is served from now on, by what its source handed over
 abbrev pub tablet_granted : Master → Grant → Handover → Master
 tablet_granted master grant handover =
     with_tablet (with_appended master (carried_entry handover grant)) grant.tenure.tablet
@@ -131,7 +131,7 @@ tablet_granted master grant handover =
       pulling = pulling_from grant.source;
     })
 
--- a target is granted its tablet, where that move applies
+-- a target is granted its tablet, if that move applies
 abbrev pub granting : Master → Grant → Option Handover → Worked
 granting master grant None = changed master
 granting master grant (Some handover) = changed (tablet_granted master grant handover)
@@ -147,7 +147,7 @@ tablet_owned master number handover =
     with_tablet master number
     (record (without_merged (tablet_at master number)) { handover = handover; pulling = pulling_from 0 })
 
--- a master owns its tablet, where that move applies
+-- a master owns its tablet, if that move applies
 abbrev pub owning : Master → ℕ → Option Handover → Worked
 owning master number None = changed master
 owning master number (Some handover) = changed (tablet_owned master number handover)
@@ -161,7 +161,7 @@ own_taken master tenure =
 abbrev pub tablet_released : Master → ℕ → Handover → Master
 tablet_released master number handover = with_move (without_items master handover.range) number (Some handover)
 
--- a master gives its tablet up, where that move applies
+-- a master gives its tablet up, if that move applies
 abbrev pub releasing : Master → ℕ → Option Handover → Worked
 releasing master number None = changed master
 releasing master number (Some handover) = changed (tablet_released master number handover)

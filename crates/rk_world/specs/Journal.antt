@@ -6,12 +6,12 @@ use Rattle.rk_types.specs.declared.call.Outcome.{Outcome}
 use Rattle.rk_types.specs.declared.history.Placed.{Placed}
 use Rattle.rk_model.specs.Merged.{is_mutation}
 
--- the stamp of the last record, 0 where there is none
+-- the stamp of the last record, or this one if there is none
 abbrev pub last_stamp_from : ℕ → List Placed → ℕ
 last_stamp_from stamp [] = stamp
 last_stamp_from stamp (placed ∷ later) = last_stamp_from placed.stamp later
 
--- the stamp of the last record of a journal
+-- the stamp of the last record of a journal, 0 if there is none
 abbrev pub last_stamp : List Placed → ℕ
 last_stamp journal = last_stamp_from 0 journal
 

@@ -9,12 +9,12 @@ use Rattle.rk_world.specs.Ranges.{has_key}
 use Rattle.rk_world.specs.Master.{Master, tablet_at, serves_key}
 use Rattle.rk_world.specs.Requests.{needs_state, state_of}
 
--- Moved may be answered only where no tablet that is served here has the key
+-- Moved may be answered only if no tablet that is served here has the key
 abbrev pub MayAnswerMoved : Master → Call → Type 0
 MayAnswerMoved master call = All (λ entry. serves_key call.table call.key entry.1 ≡ false) master.tablets
 
 -- NotYet may be answered only for a record that may not have arrived: the tablet pulls, the call needs to know what is
--- there, neither the records nor a staged item tells it, and neither its hash nor its bucket has come whole
+-- there, neither the records nor a staged item shows it, and neither its hash nor its bucket has come whole
 pub record MayAnswerNotYet (master : Master) (call : Call) (number : ℕ) : Type 0 where
   pub receiving : (tablet_at master number).handover.role ≡ roles.Receiving
   pub key_here : has_key (tablet_at master number).handover.range call.table call.key ≡ true

@@ -17,7 +17,7 @@ use Rattle.rk_world.specs.declared.ledger.LastCall.{LastCall}
 
 -- the ledger of a lane: of each client that was added the last call that it asked here, if any; how many calls were asked;
 -- the last request of each client; the journal, oldest record first; and the pieces of masters' logs that rebuilds made and that
--- are not told yet
+-- the coordinator has not taken yet
 pub record Ledger : Type 0 where
   pub clients : NumberMap (Option LastCall)
   pub asked : ℕ
@@ -25,7 +25,7 @@ pub record Ledger : Type 0 where
   pub journal : List Placed
   pub marks : List Mark
 
--- the ledger of a lane where nothing happened
+-- the ledger of a lane in which nothing happened
 abbrev pub new_ledger : Ledger
 new_ledger = record { clients = []; asked = 0; requests = []; journal = []; marks = [] }
 
@@ -85,7 +85,7 @@ with_served seen ledger served =
 abbrev pub with_all_served : ℕ → Ledger → List Served → Ledger
 with_all_served seen ledger served = fold (with_served seen) ledger served
 
--- an end makes a record where it is that of its client's last call here and that call has none
+-- an end makes a record if it is that of its client's last call here and that call has none
 abbrev pub with_end_of : Ledger → Ended → Option LastCall → Ledger
 with_end_of ledger end None = ledger
 with_end_of ledger end (Some asked) =
@@ -93,7 +93,7 @@ with_end_of ledger end (Some asked) =
     then with_record ledger asked.call (outcome_of end.end) asked.seen
     else ledger
 
--- an end of a rebuild makes a record, where it is that of the last call of its client and that call has none
+-- an end of a rebuild makes a record, if it is that of the last call of its client and that call has none
 abbrev pub with_end : Ledger → Ended → Ledger
 with_end ledger end = with_end_of ledger end (asked_by ledger end.client)
 

@@ -1,5 +1,5 @@
--- Limits: what there is in a lane, and what keeps to it. Ends, items, entries and messages are lawful, tell no number that is
--- greater than the greatest that has stood, and name only masters, backups and clients that are there.
+-- Limits: what there is in a lane, and what keeps to it. Ends, items, entries and messages are lawful, carry no number that is
+-- greater than the greatest so far, and name only masters, backups and clients that are there.
 use Rattle.std.specs.Prelude.{◌≡◌, ◌≤◌, ◌+◌, ℕ, true, List, [], ◌++◌, length, map, nat_eq, All, IfSome, ⊤}
 use Rattle.std.specs.List.{IsDistinct}
 use Rattle.std.specs.Int.{w32, w64}
@@ -41,7 +41,7 @@ use Rattle.rk_world.specs.Requests.{call_of}
 use Rattle.rk_world.specs.Premises.{IsLawfulCall, IsMaster}
 use Rattle.rk_world.specs.World.{World}
 
--- the limits of a lane: how many masters and backups it has, the greatest number that has stood in it, and its clients
+-- the limits of a lane: how many masters and backups it has, the greatest number in it so far, and its clients
 pub record Limits : Type 0 where
   pub masters : ℕ
   pub backups : ℕ
@@ -52,8 +52,8 @@ pub record Limits : Type 0 where
 abbrev pub base_clients : Base → List ℕ
 base_clients base = numbers (completions_from [] (ends_told base))
 
--- the limits of a lane where this is the greatest number: its clients are those that were added, and those that its history's start
--- tells of
+-- the limits of a lane with this greatest number: its clients are those that were added, and those that its history's start
+-- names
 abbrev pub limits_at : World → ℕ → Limits
 limits_at w top = record {
   masters = w.coordinator.masters;
@@ -79,7 +79,7 @@ IsThere limits (nodes.Backup backup) = (1 ≤ backup) × (backup ≤ limits.back
 
 -- ---- ends and entries
 
--- the version that an end tells, 0 where it tells none
+-- the version that an end gives, 0 if it gives none
 abbrev pub version_told : End → ℕ
 version_told (ends.Written version) = version
 version_told (ends.Deleted version) = version
@@ -155,7 +155,7 @@ pub record IsFormedRequest (limits : Limits) (client : ℕ) (request : Request) 
   pub seen : request.seen ≤ limits.top
   pub client_is : IsClient limits client
 
--- a request, by its sender; one that no client sends says nothing
+-- a request, by its sender; if that is no client, nothing is said
 abbrev pub IsFormedRequestOf : Limits → Node → Request → Type 0
 IsFormedRequestOf limits (nodes.Client client) request = IsFormedRequest limits client request
 IsFormedRequestOf limits _ request = ⊤
@@ -165,7 +165,7 @@ pub record IsFormedLocated (limits : Limits) (located : Located) : Type 0 where
   pub range : IsLawfulRange located.range
   pub owner : IfSome located.owner (IsMaster limits.masters)
 
--- what a source tells
+-- what a source hands over
 pub record IsFormedTransfer (limits : Limits) (transfer : Transfer) : Type 0 where
   pub tenure : IsFormedTenure limits transfer.tenure
   pub floor : IsFormedNumber limits transfer.floor

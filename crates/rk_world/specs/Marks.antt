@@ -8,7 +8,7 @@ use Rattle.rk_world.specs.declared.work.Mark.{Mark}
 abbrev pub is_marked : List Mark → ℕ → Bool
 is_marked marks place = list_any (λ mark. nat_le mark.first place && nat_lt place mark.past) marks
 
--- the entries that bear no mark, where the first of them stands at `place`
+-- of entries, the first of which is at `place`, those that bear no mark
 abbrev pub unmarked : List Mark → ℕ → List Entry → List Entry
 unmarked marks place [] = []
 unmarked marks place (entry ∷ entries) =

@@ -17,8 +17,8 @@ use Rattle.rk_world.specs.Ranges.{has_key}
 use Rattle.rk_world.specs.Material.{as_entries}
 use Rattle.rk_world.specs.Tablet.{Tablet, no_tablet}
 
--- a master: its number; its log, with the items of its side segments; how many first entries are applied; the calls
--- whose entries are not, by the place of the entry; the records, in scan order: the applied items, and what was pulled; and what it has of each tablet
+-- a master: its number; its log, with the items of its side segments; how many first entries are applied; the calls whose entries are
+-- not, by the place of the entry; the records, in scan order: the applied items, and what was pulled; and what it has of each tablet
 pub record Master : Type 0 where
   pub number : ℕ
   pub log : Log
@@ -40,7 +40,7 @@ new_master number known = record {
   tablets = [];
 }
 
--- what it has of a tablet; of one that it does not know the role is Absent and the term 0
+-- what it has of a tablet; of a tablet that it does not know, the role is Absent and the term 0
 abbrev pub tablet_at : Master → ℕ → Tablet
 tablet_at master tablet = get_or no_tablet master.tablets tablet
 
@@ -95,11 +95,11 @@ with_side_segment master items = record master {
   sides = master.sides ++ items ∷ [];
 }
 
--- a backup told that it holds so many bytes of a segment
+-- a backup reported that it holds so many bytes of a segment
 abbrev pub with_known : Master → ℕ → ℕ → ℕ → Master
 with_known master backup segment length = record master { log = with_told master.log backup segment length }
 
--- an item is put into the records, where it is newer than what is there
+-- an item is put into the records, if it is newer than what is there
 abbrev pub with_item : Master → Held → Master
 with_item master item = record master { records = with_newer item master.records }
 

@@ -24,7 +24,7 @@ append_to master backup piece =
     from_master master (nodes.Backup backup)
     (bodies.Append (record { segment = piece.segment; at = piece.at; bytes = piece.bytes }))
 
--- what is sent to a backup, where it lacks something
+-- what is sent to a backup, if it lacks something
 abbrev pub append_of : Master → ℕ → Option PlacedBytes → List Message
 append_of master backup None = []
 append_of master backup (Some piece) = append_to master backup piece ∷ []
@@ -44,18 +44,18 @@ pull_of master number tablet =
     from_master master (nodes.Master tablet.pulling.source)
     (bodies.Pull (record { tenure = tenure_at number tablet; token = tablet.pulling.token }))
 
--- a target asks first for the outstanding hashes, where there are some
+-- a target asks first for the outstanding hashes, if there are any
 abbrev pub want_of : Master → ℕ → Tablet → List ℕ → List Message
 want_of master number tablet [] = []
 want_of master number tablet (hash ∷ more) =
     from_master master (nodes.Master tablet.pulling.source)
     (bodies.Want (record { tenure = tenure_at number tablet; hashes = hash ∷ more })) ∷ []
 
--- the wanted hashes of a tablet become a batch, where none is outstanding
+-- the wanted hashes of a tablet become a batch, if none is outstanding
 abbrev pub with_outstanding : Tablet → Tablet
 with_outstanding tablet = with_pulling tablet (record tablet.pulling { hashes = batched tablet.pulling.hashes })
 
--- a target asks first for a batch of the wanted hashes, where none is outstanding
+-- a target asks first for a batch of the wanted hashes, if none is outstanding
 abbrev pub batch_asked : Master → ℕ → Tablet → Master
 batch_asked master number tablet = with_tablet master number (with_outstanding tablet)
 
@@ -77,7 +77,7 @@ joined_duty master number tablet entry =
     then sending master (from_master master nodes.Coordinator (bodies.Joined (tenure_at number tablet)))
     else changed master
 
--- a rebuilding master whose closing entry is applied tells its place and the ends
+-- a rebuilding master whose closing entry is applied reports its place and the ends
 abbrev pub rebuilt_duty : Master → ℕ → Tablet → ℕ → ℕ → Worked
 rebuilt_duty master number tablet from entry =
     if nat_lt entry master.applied

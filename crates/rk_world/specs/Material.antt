@@ -24,14 +24,14 @@ counts range (entries.Joined joined) = false
 abbrev pub counting : Range → List Entry → List Entry
 counting range entries = filter (counts range) entries
 
--- whether an entry tells of a key: an item or a refusal of the key does, and a Carried of every key
+-- whether an entry concerns a key: an item or a refusal of the key does, and a Carried concerns every key
 abbrev pub tells_of : ℕ → List ℕ → Entry → Bool
 tells_of table key (entries.Held held) = is_of table key held
 tells_of table key (entries.Refused refused) = refused.table == table && bytes_eq refused.key key
 tells_of table key (entries.Carried carried) = true
 tells_of table key (entries.Joined joined) = false
 
--- the entries that tell of a key
+-- the entries that concern a key
 abbrev pub of_key : ℕ → List ℕ → List Entry → List Entry
 of_key table key entries = filter (tells_of table key) entries
 
@@ -60,7 +60,7 @@ abbrev pub joined_from : Range → ℕ → List Entry → List Entry
 joined_from range from list = filter (is_joined_in range) (drop from list)
 
 -- what counts for a range of these entries of a log: those that count themselves, and then those of the side segments
--- that they name, where `side` gives the entries of each side segment
+-- that they name; `side` gives the entries of each side segment
 abbrev pub material_of : Range → (ℕ → List Entry) → List Entry → List Entry
 material_of range side entries = counting range entries ++ counting range (flat_map side (named range entries))
 
@@ -68,7 +68,7 @@ material_of range side entries = counting range entries ++ counting range (flat_
 abbrev pub as_entries : List Held → List Entry
 as_entries items = map entries.Held items
 
--- the entries of the side segment of this number, where `sides` has the items of each, from the first one on
+-- the entries of the side segment of this number; `sides` has the items of each, from the first one on
 abbrev pub side_entries : List (List Held) → ℕ → List Entry
 side_entries sides number =
     if nat_lt number FIRST_SIDE_SEGMENT then [] else as_entries (slice_index_or sides (number - FIRST_SIDE_SEGMENT) [])

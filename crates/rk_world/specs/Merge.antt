@@ -12,7 +12,7 @@ use Rattle.rk_overlay.specs.Overlay.{newest_items}
 use Rattle.rk_world.specs.declared.work.Merged.{Merged}
 use Rattle.rk_world.specs.Ends.{told, items_of}
 
--- whether an item of a key and version stands among these
+-- whether an item of this key and version is among these
 abbrev pub has_version : List Held → Held → Bool
 has_version items item =
     list_any (λ other. other.table == item.table && bytes_eq other.key item.key && (other.version == item.version)) items
@@ -40,8 +40,8 @@ is_same_call a b = a.client == b.client && (a.seq == b.seq)
 abbrev pub is_outrun_by : Ended → Ended → Bool
 is_outrun_by a b = a.client == b.client && nat_lt a.seq b.seq
 
--- whether the place of an end is here: no end tells a later call of its client, no later member tells it again, and
--- none before it here does
+-- whether the place of an end is here: no end is of a later call of its client, and none of a later member, and none before it
+-- here, is of the same call
 abbrev pub is_placed : List Ended → List Ended → List Ended → Ended → Bool
 is_placed all later seen end =
     not (list_any (is_outrun_by end) all) && not (list_any (is_same_call end) (later ++ seen))
@@ -59,12 +59,12 @@ abbrev pub ends_by_place : List Ended → List (List Ended) → List Ended
 ends_by_place all [] = []
 ends_by_place all (ends ∷ later) = placed_ends all (flat_map (λ told. told) later) [] ends ++ ends_by_place all later
 
--- the end that counts for a call is the first that tells it
+-- the end that counts for a call is the first that is recorded of it
 abbrev pub first_told : Ended → Option Completion → Ended
 first_told end None = end
 first_told end (Some last) = ended_of (end.client, last)
 
--- the last end of each client, in the order of the members that tell it last and within a member by place
+-- the last end of each client, in the order of the members that record it last, and within a member by place
 abbrev pub merged_ends : List (List Entry) → List Ended
 merged_ends members =
     let all = flat_map told members in

@@ -15,7 +15,7 @@ next_rebuilder coordinator lineage =
     unwrap_or (find (λ master. not (is_noticed coordinator master)) (map (λ member. member.master) lineage))
     (lowest_left coordinator)
 
--- the phase of a row once a master was noticed dead, where that changes it
+-- the phase of a row once a master was noticed dead, if that changes it
 abbrev pub phase_noticed : Coordinator → ℕ → Phase → Option Phase
 phase_noticed coordinator dead (Owned master from) =
     if master == dead then Some (Rebuilding (member dead from ∷ []) (lowest_left coordinator)) else None
@@ -30,7 +30,7 @@ phase_noticed coordinator dead (Moving source sfrom target dfrom) =
 phase_noticed coordinator dead (Rebuilding lineage to) =
     if to == dead then Some (Rebuilding lineage (next_rebuilder coordinator lineage)) else None
 
--- a row once a master was noticed dead: where its phase changes, its term rises
+-- a row once a master was noticed dead: if its phase changes, its term rises
 abbrev pub row_noticed : Row → Option Phase → Row
 row_noticed row None = row
 row_noticed row (Some phase) = record row { term = row.term + 1; phase = phase }
@@ -60,9 +60,9 @@ notice_order rows dead crashed =
     ++ (filter (λ master. is_named rows master && not (master == dead)) crashed
     ++ filter (λ master. is_named rows master && (master == dead)) crashed)
 
--- a crash is noticed, and with it each other one that was not, so no row stays with a crashed master: one that no row names is
--- marked before a row could be given to it, and a row that is given to one that is marked later passes on then; a master that
--- was noticed already is not marked again
+-- a crash is noticed, and with it each other crash that was not, so no row stays with a crashed master: a master that no row names
+-- is marked before a row could be given to it, and a row that is given to a master that is marked later passes on then; a master
+-- that was noticed already is not marked again
 abbrev pub coordinator_notice : Coordinator → ℕ → List ℕ → Coordinator
 coordinator_notice coordinator dead crashed =
     fold notice_one coordinator

@@ -35,7 +35,7 @@ pub record IsLawfulCall (call : Call) : Type 0 where
   pub key : key_fault call.key ≡ None
   pub op : IsLawfulOp call.op
 
--- a node that may take a turn, where there are so many masters
+-- a node that may take a turn, in a lane of so many masters
 abbrev pub MayTurn : ℕ → Node → Type 0
 MayTurn count (nodes.Master master) = IsMaster count master
 MayTurn count node = ⊤
@@ -75,6 +75,6 @@ pub record MayAct (count : ℕ) (session : Session) : Type 0 where
   pub seen : All (λ receipt. receipt.stamp ≤ session.seen) session.receipts
   pub cached : All (All (IsCached count)) session.ranges
 
--- the call of a client comes after all that the history's start tells of this client
+-- the call of a client comes after all that the history's start records of this client
 abbrev pub IsAfterStart : Base → Call → Type 0
 IsAfterStart base call = All (λ end. end.client ≡ call.client → end.seq < call.seq) (ends_told base)

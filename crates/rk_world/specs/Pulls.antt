@@ -70,7 +70,7 @@ item_replayed number worker master item =
     with_tablet (with_item master item) number
     (with_pulling (tablet_at master number) (with_pulled (tablet_at master number).pulling worker item))
 
--- an item is replayed where it is newer than what the records have of its key
+-- an item is replayed if it is newer than what the records have of its key
 abbrev pub replay_one : ℕ → ℕ → Master → Held → Master
 replay_one number worker master item =
     if is_newer item (found item.table item.key master.records) then item_replayed number worker master item else master
@@ -99,7 +99,7 @@ abbrev pub joining_at : Master → ℕ → Tablet → Option Handover → Master
 joining_at master number tablet None = master
 joining_at master number tablet (Some handover) = with_tablet master number (with_handover tablet handover)
 
--- a target whose side logs are sealed has all; where there was nothing to seal, its closing entry is appended at once
+-- a target whose side logs are sealed has all; if there was nothing to seal, its closing entry is appended at once
 abbrev pub joining_by : Master → ℕ → Tablet → List ℕ → Master
 joining_by master number tablet [] =
     closing_entry master number tablet (joined tablet.handover tablet.handover.term (Some (length master.log.entries)))
@@ -128,7 +128,7 @@ batch_taken master number pulled =
     let now = token_passed (replay master number worker (items_of pulled.entries)) number pulled.next in
     if is_token pulled.next end then pulled_all now number else now
 
--- a target takes a batch where it is that of its token
+-- a target takes a batch if it is that of its token
 abbrev pub pulled_taken : Master → Pulled → Worked
 pulled_taken master pulled =
     let tablet = tablet_at master pulled.tenure.tablet in
@@ -142,7 +142,7 @@ hashes_resolved master number hashes =
     let tablet = tablet_at master number in
     with_tablet master number (with_pulling tablet (record tablet.pulling { hashes = got tablet.pulling.hashes hashes }))
 
--- a target takes the items that it asked for first, where they are those of the outstanding batch
+-- a target takes the items that it asked for first, if they are those of the outstanding batch
 abbrev pub got_taken : Master → Got → Worked
 got_taken master message =
     let tablet = tablet_at master message.tenure.tablet in

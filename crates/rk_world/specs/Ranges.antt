@@ -20,7 +20,7 @@ range_below range at = record { table = range.table; first = range.first; last =
 abbrev pub range_from : Range → ℕ → Range
 range_from range at = record { table = range.table; first = at; last = range.last }
 
--- the version and value of the record at each key, where there is one
+-- the version and value of the record at each key, if there is one
 abbrev pub Records : Type 0
 Records = ℕ → List ℕ → Option (ℕ × List ℕ)
 

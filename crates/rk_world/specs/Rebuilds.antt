@@ -68,7 +68,7 @@ piece_of master number merged handover = record {
   term = handover.term;
 }
 
--- what was gathered is merged, where that move applies, as one piece of the log
+-- what was gathered is merged, if that move applies, as one piece of the log
 abbrev pub merging : Master → ℕ → Tablet → Merged → Option Handover → Worked
 merging master number tablet merged None = changed master
 merging master number tablet merged (Some handover) = record {
@@ -148,7 +148,7 @@ abbrev pub segment_gathered : Master → CopySegment → Master
 segment_gathered master copy =
     with_tablet master copy.tenure.tablet (with_gathered (tablet_at master copy.tenure.tablet) copy)
 
--- a master takes the copy of a segment, where it awaits just that
+-- a master takes the copy of a segment, if it awaits just that
 abbrev pub copy_taken : Master → CopySegment → Worked
 copy_taken master copy =
     let tablet = tablet_at master copy.tenure.tablet in

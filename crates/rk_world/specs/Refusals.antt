@@ -34,7 +34,7 @@ MOST_CLIENTS = 64
 abbrev pub too_great : ℕ → ℕ → Option ℕ
 too_great limit number = if nat_le limit number then Some number else None
 
--- the first number of a lane that is too great: the greatest that has stood in it, or the bytes of its logs
+-- the first number of a lane that is too great: the greatest in it so far, or the bytes of its logs
 abbrev pub worn : World → Option ℕ
 worn w = option_or (too_great WORN_NUMBER w.top) (too_great WORN_BYTES (bytes_of_logs w))
 
@@ -43,7 +43,7 @@ abbrev pub worn_session : Session → Option Call → Option ℕ
 worn_session session None = too_great WORN_NUMBER session.seen
 worn_session session (Some call) = option_or (too_great WORN_NUMBER call.seq) (too_great WORN_NUMBER session.seen)
 
--- a cause, where a test holds
+-- a cause, if a test holds
 abbrev pub where_true : Bool → StepError → Option StepError
 where_true holds cause = if holds then Some cause else None
 
@@ -89,7 +89,7 @@ fault_of w (events.Split tablet at new) = option_map errors.Move (tablet_split_f
 fault_of w (events.Crash master) = where_true (has_crashed w master) (errors.Dead master)
 fault_of w (events.Notice master) = where_true (not (has_crashed w master)) (errors.Alive master)
 
--- whether an event may come also where the lane is worn
+-- whether an event may come even if the lane is worn
 abbrev pub comes_anyway : Event → Bool
 comes_anyway (events.Forget number) = true
 comes_anyway (events.Crash master) = true

@@ -1,4 +1,4 @@
--- A reply to a call that was carried out tells stamp and place of its record. `served` has the calls that were served in the same
+-- A reply to a call that was carried out gives stamp and place of its record. `served` has the calls that were served in the same
 -- step.
 use Rattle.std.specs.Prelude.{ℕ, ◌-◌, List, length, position, slice_get, Option, Some, None, Bool, ◌==◌, ◌&&◌, not, if◌then◌else◌}
 use Rattle.std.specs.List.{list_any}
@@ -36,7 +36,7 @@ abbrev pub reply_at : List Placed → Reply → Option ℕ → Reply
 reply_at journal reply None = reply
 reply_at journal reply (Some place) = reply_with reply place (slice_get journal place)
 
--- a reply to a client with stamp and place filled in, where the call was carried out
+-- a reply to a client with stamp and place filled in, if the call was carried out
 abbrev pub filled_reply : List Placed → List Served → ℕ → Reply → Answer → Reply
 filled_reply journal served client reply (answers.Done outcome) =
     reply_at journal reply (place_of journal served client reply.seq)

@@ -47,12 +47,12 @@ is_known tablet hash state =
     is_some state || not (is_receiving tablet.handover.role) || contains tablet.pulling.hashes.resolved hash
     || nat_lt (bucket_of hash) tablet.pulling.token.bucket
 
--- what a read tells
+-- what a read returns
 abbrev pub read_of : Option (ℕ × List ℕ) → Outcome
 read_of None = outcomes.Absent
 read_of (Some record_there) = outcomes.Found record_there.0 record_there.1
 
--- the version of a record, 0 where none is there
+-- the version of a record, 0 if none is there
 abbrev pub version_of : Option (ℕ × List ℕ) → ℕ
 version_of None = 0
 version_of (Some record_there) = record_there.0
@@ -65,7 +65,7 @@ operation tablet (ops.CondPut expected value) live =
     if expected == version_of live then Writes tablet else Refuses (version_of live) false
 operation tablet ops.Delete live = if is_some live then Writes tablet else Refuses 0 true
 
--- the value that an operation writes; none where it removes the record, or reads it
+-- the value that an operation writes; none if it removes the record, or reads it
 abbrev pub value_written : Op → Option (List ℕ)
 value_written (ops.Put value) = Some value
 value_written (ops.CondPut expected value) = Some value

@@ -1,4 +1,4 @@
--- Room: how great the numbers of a lane may get. An event is refused where one of them is too great already (`worn`), so long before that
+-- Room: how great the numbers of a lane may get. An event is refused if one of them is too great already (`worn`), so long before that
 -- no event which is not refused exceeds what is said here.
 use Rattle.std.specs.Prelude.{◌≤◌, ◌<◌, ◌^◌, ℕ, All, length}
 use Rattle.rk_types.specs.NumberMap.{EachIn}

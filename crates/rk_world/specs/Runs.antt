@@ -20,7 +20,7 @@ pub data Happening : Type 0 where
   Asks : (session : Session) → Happening
   Accepts : (number : ℕ) (session : Session) → Happening
 
--- the world after an event; one that is refused changes nothing
+-- the world after an event; a refused event changes nothing
 abbrev pub world_stepped : World → Result Stepped StepError → World
 world_stepped w (Ok stepped) = stepped.world
 world_stepped w (Err error) = w
@@ -62,8 +62,8 @@ abbrev pub IsCalm : World → List Happening → Type 0
 IsCalm w [] = ⊤
 IsCalm w (happening ∷ later) = IsCalmHappening w happening × IsCalm (after w happening) later
 
--- what may happen in a world: an event that names what is there, with what a replica may come to, or a session that may act there; a call that is asked comes after
--- the history's start
+-- what may happen in a world: an event that names what is there, with what a replica may come to, or a session that may act there; a
+-- call that is asked comes after the history's start
 abbrev pub MayOccur : World → Happening → Type 0
 MayOccur w (Happens event called) = MayHappen w event × MayCome called
 MayOccur w (Asks session) =

@@ -5,7 +5,7 @@ use Rattle.rk_types.specs.Held.{spelled_of}
 use Rattle.rk_types.specs.declared.held.Held.{Held}
 use Rattle.rk_types.specs.declared.held.TheConstants.{SEGMENT_BYTES}
 
--- the item lists of side segments with one more item: in the last one where its entry fits, and else in one more
+-- the item lists of side segments with one more item: in the last one if its entry fits, and else in one more
 abbrev pub with_side_item : List (List Held) → Held → List (List Held)
 with_side_item [] item = (item ∷ []) ∷ []
 with_side_item (items ∷ []) item =

@@ -58,17 +58,17 @@ with_halves master number tablet at new term =
     with_tablet (with_tablet master number (with_half tablet (range_below tablet.handover.range at) term)) new
     (with_half tablet (range_from tablet.handover.range at) term)
 
--- whether both parts of a range have a hash, where it is split at this one
+-- whether both parts of a range have a hash, if it is split at this one
 abbrev pub has_parts : Range → ℕ → Bool
 has_parts range at = nat_lt range.first at && nat_le at range.last
 
--- a tablet is split at a hash, where both parts have one
+-- a tablet is split at a hash, if both parts have one
 abbrev pub with_split : Master → ℕ → ℕ → ℕ → ℕ → Master
 with_split master number at new term =
     let tablet = tablet_at master number in
     if has_parts tablet.handover.range at then with_halves master number tablet at new term else master
 
--- the owner of a split tablet serves both parts, where it lives
+-- the owner of a split tablet serves both parts, if it lives
 abbrev pub owner_split : World → ℕ → Phase → ℕ → ℕ → ℕ → World
 owner_split w tablet (Owned master from) at new term =
     if has_crashed w master then w else with_master w master (with_split (master_at w master) tablet at new term)

@@ -34,7 +34,7 @@ pub record Stepped : Type 0 where
   pub world : World
   pub seen : Seen
 
--- the number of the first of these messages that are sent next, 0 where there is none
+-- the number of the first of these messages that are sent next, 0 if there is none
 abbrev pub first_number : Traffic → List Message → ℕ
 first_number wire [] = 0
 first_number wire (message ∷ more) = wire.sent + 1
@@ -69,7 +69,7 @@ worked_at w master seen worked =
     let ledger = ledger_after w.ledger master seen worked in
     with_sends (with_ledger (with_master w master worked.master) ledger) (map (filled ledger.journal worked.served) worked.sends)
 
--- a message reaches a master; one that has crashed loses it
+-- a message reaches a master; a master that has crashed loses it
 abbrev pub to_master : World → ℕ → Message → Stepped
 to_master w master message =
     if has_crashed w master then losing w
@@ -85,7 +85,7 @@ to_coordinator w message =
 abbrev pub log_bytes_of : World → ℕ → ℕ → List ℕ
 log_bytes_of w master segment = bytes_of (master_at w master).log segment
 
--- a backup has worked; where its replica called the message is lost
+-- a backup has worked; if its replica failed, the message is lost
 abbrev pub backed_at : World → Backed → Stepped
 backed_at w backed = if backed.lost then losing w else with_sends w backed.sends
 
@@ -98,7 +98,7 @@ to_backup w backup sender body called =
     (backup_step backup sender body (log_bytes_of w) called)
     else quietly w
 
--- a message reaches its receiver; `called` tells what the call of a replica came to
+-- a message reaches its receiver; `called` says what the call of a replica came to
 abbrev pub delivered_to : World → Message → Node → Called → Stepped
 delivered_to w message (nodes.Client client) called = quietly w
 delivered_to w message nodes.Coordinator called = to_coordinator w message
@@ -140,7 +140,7 @@ abbrev pub sent_again : World → Option Message → Stepped
 sent_again w None = quietly w
 sent_again w (Some message) = with_sends w (message ∷ [])
 
--- what an event makes of the world, where it is not refused
+-- what an event makes of the world, if it is not refused
 abbrev pub happened : World → Event → Called → Stepped
 happened w (events.AddTablet tablet range master) called = quietly (tablet_added w tablet range master)
 happened w (events.AddClient client) called = quietly (client_added w client)
@@ -160,22 +160,22 @@ abbrev pub stepped_by : World → Event → Called → Option StepError → Resu
 stepped_by w event called None = Ok (happened w event called)
 stepped_by w event called (Some error) = Err error
 
--- what an event makes of a world, or why it is refused; `called` tells what the call of a replica came to, if the event makes
+-- what an event makes of a world, or why it is refused; `called` says what the call of a replica came to, if the event makes
 -- one
 abbrev pub step : World → Event → Called → Result Stepped StepError
 step w event called = stepped_by w event called (refusal w event)
 
--- what the call of a replica comes to where this message reaches its receiver
+-- what the call of a replica comes to when this message reaches its receiver
 abbrev pub told_to : World → Message → Node → Option ℕ → Called
 told_to w message (nodes.Backup backup) fault = called_by (backup_at w backup) message.from message.body fault
 told_to w message to fault = Gave None
 
--- what the delivery of a message asks of a replica that tells its segments, where `fault` tells whether that fails
+-- what the delivery of a message comes to at a replica that reports its segments; `fault` says whether that fails
 abbrev pub told_for : World → Option Message → Option ℕ → Called
 told_for w None fault = Gave None
 told_for w (Some message) fault = told_to w message message.to fault
 
--- what an event comes to at replicas that tell their segments, where `fault` tells whether the one that is called fails
+-- what an event comes to at replicas that report their segments; `fault` says whether the one that is called fails
 abbrev pub told_by_replica : World → Event → Option ℕ → Called
 told_by_replica w (events.Deliver number) fault = told_for w (get w.wire.messages number) fault
 told_by_replica w event fault = Gave None

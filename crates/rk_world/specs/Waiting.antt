@@ -1,4 +1,4 @@
--- What a tablet waits for: one that closes freezes once nothing of it is staged, and a target that has all appends its closing
+-- What a tablet waits for: a tablet that closes freezes once nothing of it is staged, and a target that has all appends its closing
 -- entry once its side segments are stored.
 use Rattle.std.specs.Prelude.{ℕ, Bool, if◌then◌else◌, length, fold, Option, Some, None}
 use Rattle.std.specs.List.{list_all}
@@ -17,7 +17,7 @@ use Rattle.rk_world.specs.Master.{Master, is_settled, with_tablet, with_appended
 abbrev pub tablet_frozen : Master → ℕ → Tablet → Handover → Master
 tablet_frozen master number tablet handover = with_tablet master number (with_handover tablet handover)
 
--- a tablet that closes freezes, where nothing of it is staged
+-- a tablet that closes freezes, if nothing of it is staged
 abbrev pub freezing : Master → ℕ → Tablet → Option Handover → Master
 freezing master number tablet None = master
 freezing master number tablet (Some handover) =
@@ -36,7 +36,7 @@ abbrev pub closing_appended : Master → ℕ → Tablet → Handover → Master
 closing_appended master number tablet handover =
     with_appended (with_tablet master number (with_handover tablet handover)) (joined_entry tablet)
 
--- a target that has all appends the entry that closes its role, where that move applies
+-- a target that has all appends the entry that closes its role, if that move applies
 abbrev pub closing_entry : Master → ℕ → Tablet → Option Handover → Master
 closing_entry master number tablet None = master
 closing_entry master number tablet (Some handover) = closing_appended master number tablet handover

@@ -18,9 +18,9 @@ use Rattle.rk_world.specs.Journal.{last_stamp}
 use Rattle.rk_world.specs.Ledger.{Ledger, new_ledger, marks_of, seen_of}
 use Rattle.rk_world.specs.Written.{Written, written_by}
 
--- the world of a lane: its number; its masters, crashed ones too; how many backups it has, and what each of them stores, where its
--- replica tells that; the coordinator; the wire; the ledger; the masters that have crashed; the greatest number that has stood in
--- it; and what its history starts from
+-- the world of a lane: its number; its masters, crashed ones too; how many backups it has, and what each of them stores, if its
+-- replica reports that; the coordinator; the wire; the ledger; the masters that have crashed; the greatest number in it so far; and
+-- what its history starts from
 pub record World : Type 0 where
   pub lane : ℕ
   pub masters : NumberMap Master
@@ -42,7 +42,7 @@ new_masters masters backups =
 abbrev pub new_backups : ℕ → NumberMap Segments
 new_backups backups = map (λ number. (number, no_segments)) (range_with_len 1 backups)
 
--- the lane of a number where nothing has happened, with so many masters and backups; its history starts from nothing
+-- the lane of a number in which nothing has happened, with so many masters and backups; its history starts from nothing
 abbrev pub new_world : ℕ → ℕ → ℕ → World
 new_world lane masters backups = record {
   lane = lane;
@@ -81,7 +81,7 @@ live_masters w = filter (λ entry. not (has_crashed w entry.0)) w.masters
 abbrev pub with_master : World → ℕ → Master → World
 with_master w number master = record w { masters = insert w.masters number master }
 
--- a backup, where it tells what it stores, stores this more
+-- a backup, if it reports what it stores, stores this as well
 abbrev pub with_stored_by : World → ℕ → (Segments → Segments) → Option Segments → World
 with_stored_by w number store None = w
 with_stored_by w number store (Some segments) = record w { backups = insert w.backups number (store segments) }
@@ -118,7 +118,7 @@ greatest numbers = fold max 0 numbers
 abbrev pub counters_of : Master → List ℕ
 counters_of master = map (λ entry. entry.1.handover.counter) master.tablets
 
--- the numbers that stand in a world and may grow: how many messages were sent, the last stamp, what clients had seen, the
+-- the numbers in a world that may grow: how many messages were sent, the last stamp, what clients had seen, the
 -- terms of rows and the counters of tablets; each version, floor and term elsewhere is at most one of these
 abbrev pub standing : World → List ℕ
 standing w =
@@ -126,7 +126,7 @@ standing w =
     ++ map (λ row. row.term) w.coordinator.rows
     ++ flat_map (λ entry. counters_of entry.1) w.masters
 
--- the greatest number that has stood in the world, with those that stand in it now
+-- the greatest number in the world so far, with those that are in it now
 abbrev pub with_top : World → World
 with_top w = record w { top = max w.top (greatest (standing w)) }
 

@@ -21,7 +21,7 @@ pub record Written : Type 0 where
   pub sides : List (List Held)
   pub marks : List Mark
 
--- what this master has written, where its log has these marks
+-- what this master has written, with these marks of its log
 abbrev pub written_by : Master → List Mark → Written
 written_by master marks = record {
   entries = master.log.entries;
@@ -46,7 +46,7 @@ member_truth written range member =
     log_material range (written member.master).marks (written member.master).sides member.from
     (applied_entries (written member.master))
 
--- what a lineage tells of a range, member by member; a row without a lineage has what its history starts from
+-- what a lineage has of a range, member by member; a row without a lineage has what its history starts from
 abbrev pub lineage_truth : Base → (ℕ → Written) → Range → List Member → List Entry
 lineage_truth base written range [] = base_entries base range
 lineage_truth base written range (member ∷ members) = flat_map (member_truth written range) (member ∷ members)

@@ -3,7 +3,7 @@ use rk_types::{End, Outcome};
 /// What is to be done with a call, at the tablet of a number.
 #[derive(Drop)]
 pub enum Choice {
-    /// No tablet that is served here has the key: the client is told that it has moved.
+    /// No tablet that is served here has the key: the call is answered Moved.
     Redirects,
     /// The call has ended so.
     Repeats(End),
@@ -11,7 +11,7 @@ pub enum Choice {
     Ignores,
     /// The record may not have arrived at this tablet yet: its hash is wanted.
     Wants(u32),
-    /// The read tells this.
+    /// The read returns this.
     Reads(Outcome),
     /// The mutation writes or removes the record at this tablet, as its operation says.
     Writes(u32),

@@ -41,7 +41,7 @@ pub enum Event {
 pub enum Taken {
     /// It is not for the outstanding call, or says nothing new.
     Ignored,
-    /// It tells where the key is.
+    /// It says where the key is.
     Located,
     /// The tablet of this number has moved.
     Moved(u32),
@@ -51,7 +51,7 @@ pub enum Taken {
     Done,
 }
 
-/// What an event showed: how many messages it put on the wire, and the number of the first of them, 0 where there is
+/// What an event showed: how many messages it put on the wire, and the number of the first of them, 0 if there is
 /// none; whether it was lost, since its receiver had crashed or a backup failed; what a session made of the message.
 #[derive(Drop)]
 pub struct Seen {

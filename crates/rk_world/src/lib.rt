@@ -1,7 +1,7 @@
 //! The whole protocol as data: what each node knows, and what it does with a message, on its turn, at a crash and after
-//! it. Definitions stand in `specs`, one file a subject; here stand the few types that they share with code.
+//! it. The definitions are in `specs`, one file per subject; here are the few types that they share with code.
 //!
-//! It stands on the crates whose types and definitions the protocol speaks of, and promises nothing by itself: code is
+//! It builds on the crates whose types and definitions the protocol speaks of, and promises nothing by itself: code is
 //! proved to do what it says, and laws are proved of it.
 #![tactic(auto)]
 

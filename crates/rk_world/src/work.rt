@@ -26,7 +26,7 @@ pub struct Mark {
 }
 
 /// What a rebuild adds to its log: items that are copied, by rising version, a number above each version, and the last
-/// end of each client, in the order of the logs that tell them.
+/// end of each client, in the order of the logs that record them.
 #[derive(Drop)]
 pub struct Merged {
     pub copies: Listed<Held>,
