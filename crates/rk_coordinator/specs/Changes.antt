@@ -9,7 +9,7 @@ use Rattle.rk_world.specs.Coordinator.{Coordinator}
 use Rattle.rk_world.specs.Notices.{phase_noticed}
 use Rattle.rk_coordinator.specs.declared.coordinator_lane.notices.Change.{Change}
 
--- a row at its next term, where its phase changes
+-- a row at its next term, if its phase changes
 abbrev pub change_of : Row → Option Phase → Option Change
 change_of row None = None
 change_of row (Some phase) = Some (record { tablet = row.tablet; term = row.term + 1; phase = phase })

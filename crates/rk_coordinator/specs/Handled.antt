@@ -7,7 +7,7 @@ use Rattle.rk_world.specs.Coordinator.{Coordinator}
 use Rattle.rk_world.specs.CoordinatorStep.{Coordinated}
 use Rattle.rk_coordinator.specs.declared.handled.Handled.{Handled}
 
--- the Rebuilt that a message is, where it was taken
+-- the Rebuilt that a message is, if it was taken
 abbrev pub rebuilt_by : Bool → Body → Option Rebuilt
 rebuilt_by true (bodies.Rebuilt message) = Some message
 rebuilt_by _ _ = None

@@ -1,4 +1,4 @@
--- What a coordinator in code stands for.
+-- What a coordinator in code represents.
 use Rattle.std.specs.Prelude.{ℕ, ◌<◌, ◌^◌, ◌++◌, ◌∷◌, [], All}
 use Rattle.rk_types.specs.NumberMap.{get_or}
 use Rattle.rk_message.specs.declared.handover.Grant.{Grant}
@@ -18,10 +18,10 @@ MayRise coordinator = All (λ row. row.term < 2 ^ 63) coordinator.rows
 abbrev pub marked : Coordinator → ℕ → Coordinator
 marked coordinator dead = record coordinator { noticed = coordinator.noticed ++ dead ∷ [] }
 
--- what the source of a tablet told, and what stands for it where that is not known
+-- what the source of a tablet reported, and what is used for it if that is not known
 abbrev pub told_of : Coordinator → ℕ → Handed
 told_of coordinator tablet = get_or (record { floor = 1; ends = [] }) coordinator.handed tablet
 
--- the Grant of a tenure that hands on what the source told
+-- the Grant of a tenure that hands on what the source reported
 abbrev pub grant_of : Tenure → ℕ → Handed → Grant
 grant_of tenure source handed = record { tenure = tenure; source = source; floor = handed.floor; ends = handed.ends }

@@ -23,7 +23,7 @@ pub struct CoordinatorLane {
     map: TabletMap,
     // The masters that were noticed dead, in the order in which that came.
     noticed: Vec<u8>,
-    // What sources told, by tablet.
+    // What sources reported, by tablet.
     handed: Numbered<Told>,
 }
 
@@ -83,13 +83,13 @@ impl CoordinatorLane {
         self.noticed.iter().any(|noticed| *noticed == master)
     }
 
-    // Where what it makes takes its memory.
+    // The allocator for what it makes.
     fn alloc(&self) -> Global {
         *self.noticed.allocator()
     }
 
-    /// Adds a tablet, owned by a master from the start of its log on. `Taken` comes where its number is there, else
-    /// `Overlap` where its range meets that of another tablet. After an error, `NoMemory` too, nothing has changed. A few
+    /// Adds a tablet, owned by a master from the start of its log on. `Taken` comes if its number is there, else
+    /// `Overlap` if its range meets that of another tablet. After an error, `NoMemory` too, nothing has changed. A few
     /// steps for each row.
     pub fn add(&mut self, tablet: u32, range: Range, master: u8) -> Result<(), MapError>
         ensures lawful { OnOk result (add_fault self.old.rows (new_row tablet range master) ≡ None) }
@@ -106,8 +106,8 @@ impl CoordinatorLane {
         })
     }
 
-    /// A tablet begins to move to a master, at the next term. `NoTablet` comes where there is no such tablet, else
-    /// `NotOwned` where it moves or is rebuilt, else `SameMaster` where that master owns it, else `DeadMaster` where that
+    /// A tablet begins to move to a master, at the next term. `NoTablet` comes if there is no such tablet, else
+    /// `NotOwned` if it moves or is rebuilt, else `SameMaster` if that master owns it, else `DeadMaster` if that
     /// was noticed dead. After an error nothing has changed; it takes no memory. A few steps for each row, and one for each
     /// master that was noticed.
     pub fn migrate(&mut self, tablet: u32, to: u8) -> Result<(), MoveError>
@@ -141,7 +141,7 @@ impl CoordinatorLane {
     }
 
     /// Splits a tablet at a hash: the hashes from it on become the tablet `new`, and both begin the next term with the
-    /// tablet's owner. `NoTablet` comes where there is no such tablet, else `NotOwned` where it moves or is rebuilt, else
+    /// tablet's owner. `NoTablet` comes if there is no such tablet, else `NotOwned` if it moves or is rebuilt, else
     /// `Map` with what the tablet map refuses. After an error, `NoMemory` too, nothing has changed. A few steps for each
     /// row.
     pub fn split(&mut self, tablet: u32, at: u64, new: u32) -> Result<(), MoveError>

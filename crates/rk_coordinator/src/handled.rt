@@ -5,6 +5,6 @@ use rk_message::Message;
 pub struct Handled {
     /// What the coordinator sends, in this order.
     pub sends: Vec<Message>,
-    /// Whether the message was a Rebuilt that its row waited for: what it tells is to be recorded.
+    /// Whether the message was a Rebuilt that its row waited for: what it reports is to be recorded.
     pub took_rebuilt: bool,
 }

@@ -3,7 +3,7 @@ ghost use Rattle.std.specs.Prelude.{◌≡◌, IfOk};
 use rk_types::{Ended, Listed, NoMemory};
 use std::marker::Model;
 
-/// What a source told when its tablet froze. Contracts see the record of the definitions.
+/// What a source reported when its tablet froze. Contracts see the record of the definitions.
 #[derive(Drop)]
 pub(crate) struct Told {
     floor: u64,

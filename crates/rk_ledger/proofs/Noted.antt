@@ -1,4 +1,4 @@
--- What is to be noted of calls, once one more record stands at the end, and once it is taken away.
+-- What is to be noted of calls, once one more record is at the end, and once it is taken away.
 use Rattle.std.proofs.Common.{◌≡◌, ℕ, ◌+◌, ◌-◌, Bool, true, false, cond, eqb, ◌&&◌, ◌||◌, List, [], ◌∷◌, ◌++◌, length, refl, sym, ap, ◌∙◌, subst, arith}
 use Rattle.std.specs.Prelude.{All, nat_lt}
 use Rattle.std.specs.List.{count_by, list_any, position}

@@ -1,4 +1,4 @@
--- The place of the first thing that passes a test, once one more thing stands at the end.
+-- The place of the first thing that passes a test, once one more thing is at the end.
 use Rattle.std.proofs.Common.{◌≡◌, ℕ, ◌+◌, ◌≤◌, Bool, true, false, cond, eqb, ltb, not, ◌||◌, List, [], ◌∷◌, ◌++◌, length, Option, Some, None, is_some, refl, ◌∙◌, arith}
 use Rattle.std.specs.List.{position, position_or_len, list_any}
 use Rattle.std.proofs.lemmas.Bool.Decides.{nat_tests}

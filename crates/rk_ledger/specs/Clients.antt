@@ -24,7 +24,7 @@ abbrev pub requests_of : NumberMap Asked → NumberMap Message
 requests_of [] = []
 requests_of (entry ∷ entries) = with_request_of entry.0 entry.1.request (requests_of entries)
 
--- what entries by rising number tell
+-- what entries by rising number hold
 abbrev pub asked_here : NumberMap Asked → AskedHere
 asked_here entries = record { last_calls = last_calls_of entries; requests = requests_of entries }
 

@@ -1,4 +1,4 @@
--- What a ledger in code stands for.
+-- What a ledger in code represents.
 use Rattle.rk_world.specs.Ledger.{Ledger}
 use Rattle.rk_ledger.specs.declared.ledger_lane.LedgerLane.TheInside.{Inside}
 

@@ -27,7 +27,7 @@ abbrev pub is_last_name : Option OfCall → ℕ → ℕ → Bool
 is_last_name None client seq = false
 is_last_name (Some last) client seq = is_of_name last client seq
 
--- what was noted last, where it is of a client and a seq, and else what is stored of them
+-- what was noted last, if it is of a client and a seq, and else what is stored of them
 abbrev pub last_or : Option OfCall → ℕ → ℕ → Option Noted → Option Noted
 last_or None client seq stored = stored
 last_or (Some last) client seq stored = if is_of_name last client seq then Some last.noted else stored
@@ -64,19 +64,19 @@ pub record NotesTheSame (before after : CallIndex) : Type 0 where
 abbrev pub is_accepted_of : ℕ → ℕ → Placed → Bool
 is_accepted_of client seq placed = placed.accepted && is_of_call client seq placed
 
--- what is to be noted of a client and a seq: where the first record of the mutation stands, and how many records are accepted
+-- what is to be noted of a client and a seq: the place of the mutation's first record, and how many records are accepted
 abbrev pub noted : List Placed → ℕ → ℕ → Noted
 noted records client seq = record {
   place = position (is_of_mutation client seq) records;
   accepted = count_by (is_accepted_of client seq) records;
 }
 
--- a place, or else another one where a test holds
+-- a place, or else another one if a test holds
 abbrev pub known_or : Option ℕ → Bool → ℕ → Option ℕ
 known_or (Some known) holds place = Some known
 known_or None holds place = if holds then Some place else None
 
--- what is noted of a call once one more record of it stands at this place
+-- what is noted of a call once one more record of it is at this place
 abbrev pub with_record : Noted → Placed → ℕ → Noted
 with_record noted placed place = record {
   place = known_or noted.place (is_mutation placed.call.op) place;
@@ -88,7 +88,7 @@ abbrev pub unless_at : Option ℕ → ℕ → Option ℕ
 unless_at None place = None
 unless_at (Some known) place = if known == place then None else Some known
 
--- what was noted of a call before its last record came to stand at this place
+-- what was noted of a call before its last record was put at this place
 abbrev pub without_record : Noted → Placed → ℕ → Noted
 without_record noted placed place = record {
   place = unless_at noted.place place;

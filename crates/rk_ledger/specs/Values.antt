@@ -13,7 +13,7 @@ written_bytes (ops.Put value) = length value
 written_bytes (ops.CondPut expected value) = length value
 written_bytes _ = 0
 
--- the bytes of the value that an outcome tells
+-- the bytes of the value that an outcome carries
 abbrev pub found_bytes : Outcome → ℕ
 found_bytes (outcomes.Found version value) = length value
 found_bytes _ = 0

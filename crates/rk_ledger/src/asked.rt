@@ -22,7 +22,7 @@ impl Asked {
         }
     }
 
-    /// Another call stands in the place of the last one, which is dropped.
+    /// Another call takes the place of the last one, which is dropped.
     pub(crate) fn ask(&mut self, last: LastCall)
         ensures last { self.new.last ≡ Some last }
         ensures request { self.new.request ≡ self.old.request }
@@ -30,7 +30,7 @@ impl Asked {
         self.last = Some(last);
     }
 
-    /// Another request stands in the place of the last one, which is dropped.
+    /// Another request takes the place of the last one, which is dropped.
     pub(crate) fn save(&mut self, request: Message)
         ensures last { self.new.last ≡ self.old.last }
         ensures request { self.new.request ≡ Some request }

@@ -6,7 +6,7 @@ use rk_types::{NoMemory, Placed};
 use std::alloc::Global;
 use std::collections::HashMap;
 
-/// What is noted of a client and seq: where the record of the mutation stands, if it has one, and how many records are
+/// What is noted of a client and seq: the place of the mutation's record, if it has one, and how many records are
 /// accepted.
 #[derive(Clone, Copy)]
 pub(crate) struct Noted {
@@ -15,7 +15,7 @@ pub(crate) struct Noted {
 }
 
 impl Noted {
-    /// What is noted of a call once one more record of it stands at this place, which is not accepted.
+    /// What is noted of a call once one more record of it, which is not accepted, is at this place.
     pub(crate) fn with_record(self, placed: &Placed, place: u64) -> Noted
         requires { placed.now.accepted ≡ false }
         ensures { result ≡ with_record self placed.now place }
@@ -30,7 +30,7 @@ impl Noted {
         }
     }
 
-    /// What was noted of a call before its last record came to stand at this place.
+    /// What was noted of a call before its last record was put at this place.
     pub(crate) fn without_record(self, placed: &Placed, place: u64) -> Noted
         ensures { result ≡ without_record self placed.now place }
     {
@@ -73,12 +73,12 @@ impl OfCall {
     }
 }
 
-/// What is noted of each client and seq. The call that was noted last stands apart, since it is asked for again and again
-/// until its answer is accepted.
+/// What is noted of each client and seq. The call that was noted last is kept apart, since it is asked for again and
+/// again until its answer is accepted.
 #[derive(Drop)]
 pub(crate) struct CallIndex {
     notes: HashMap<(u32, u64), Noted>,
-    // What is noted of this call, whatever else stands in the map of it.
+    // What is noted of this call, whatever else the map has of it.
     last: Option<OfCall>,
 }
 

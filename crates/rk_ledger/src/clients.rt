@@ -93,7 +93,7 @@ impl Clients {
     }
 }
 
-// The place of a client, or where it would stand. One binary search.
+// The place of a client, or where it would be inserted. One binary search.
 fn search(entries: &[(u32, Asked)], client: u32) -> Result<usize, usize>
     requires { IsInOrder entries.now }
     ensures found { IfOk result (IsAt client entries.now) }

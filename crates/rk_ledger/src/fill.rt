@@ -8,7 +8,7 @@ use rk_message::{Body, Message, Reply};
 use rk_types::{Answer, Node};
 use rk_world::Served;
 
-/// Each message gets stamp and place of its record, where it is a client's reply to a call that was carried out. For each a step
+/// Each message gets stamp and place of its record, if it is a client's reply to a call that was carried out. For each a step
 /// for each call that was served, and a search.
 pub(crate) fn fill_all(journal: &Journal, served: &[Served], messages: &mut [Message])
     ensures { messages.new ≡ map (replies.filled journal.now served.now) messages.old }
@@ -18,7 +18,7 @@ pub(crate) fn fill_all(journal: &Journal, served: &[Served], messages: &mut [Mes
     }
 }
 
-// A message gets stamp and place of its record, where it is a client's reply to a call that was carried out.
+// A message gets stamp and place of its record, if it is a client's reply to a call that was carried out.
 fn fill(journal: &Journal, served: &[Served], message: &mut Message)
     ensures { message.new ≡ replies.filled journal.now served.now message.old }
 {
@@ -31,7 +31,7 @@ fn fill(journal: &Journal, served: &[Served], message: &mut Message)
     }
 }
 
-// A reply to a client gets stamp and place where its call was carried out.
+// A reply to a client gets stamp and place if its call was carried out.
 fn fill_reply(journal: &Journal, served: &[Served], client: u32, reply: &mut Reply)
     ensures { reply.new ≡ replies.filled_reply journal.now served.now client reply.old reply.old.answer }
 {

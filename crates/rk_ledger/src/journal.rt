@@ -53,7 +53,7 @@ impl Journal {
         self.records.as_slice()
     }
 
-    /// The stamp of the last record, 0 where there is none. One step.
+    /// The stamp of the last record, 0 if there is none. One step.
     pub(crate) fn last_stamp(&self) -> u64
         ensures { result ≡ last_stamp_lem self.now }
     {
@@ -96,7 +96,7 @@ impl Journal {
     }
 
     /// Puts the record of a call at the end, with a stamp above that of the last record and above what its client had seen.
-    /// `NoMemory` comes also where that stamp or the bytes of all values do not fit; nothing has changed then. A few searches.
+    /// `NoMemory` comes also if that stamp or the bytes of all values do not fit; nothing has changed then. A few searches.
     pub(crate) fn add(&mut self, call: Call, outcome: Outcome, seen: u64) -> Result<(), NoMemory>
         ensures ok { OnOk result (self.new ≡ self.old ++ next_record self.old call outcome seen ∷ []) }
         ensures err { OnErr result (self.new ≡ self.old) }
@@ -146,7 +146,7 @@ pub(crate) fn is_mutation(op: &Op) -> bool
     !matches!(op, Op::Get)
 }
 
-// The stamp of the last record, 0 where there is none.
+// The stamp of the last record, 0 if there is none.
 fn last_stamp(records: &[Placed]) -> u64
     ensures { result ≡ last_stamp_lem records.now }
 {
@@ -156,7 +156,7 @@ fn last_stamp(records: &[Placed]) -> u64
     }
 }
 
-// A stamp above that of the last record, and above what was seen, where it fits.
+// A stamp above that of the last record, and above what was seen, if it fits.
 fn next_stamp(records: &[Placed], seen: u64) -> Result<u64, NoMemory>
     ensures { IfOk result (λ stamp. stamp ≡ max (last_stamp_lem records.now) seen + 1) }
 {
@@ -179,7 +179,7 @@ fn record_bytes(placed: &Placed) -> u64
     written as u64 + found as u64
 }
 
-// So many bytes with those of one more record, where they fit.
+// So many bytes with those of one more record, if they fit.
 fn more_bytes(bytes: u64, placed: &Placed) -> Result<u64, NoMemory>
     ensures { IfOk result (λ more. more ≡ bytes + values.record_bytes placed.now) }
 {
@@ -200,7 +200,7 @@ fn put(records: &mut Vec<Placed>, index: &mut CallIndex, placed: Placed) -> Resu
     Ok(())
 }
 
-// Notes a record that comes to stand behind these and is not accepted.
+// Notes a record that comes behind these and is not accepted.
 fn note(index: &mut CallIndex, placed: &Placed, records: &[Placed]) -> Result<(), NoMemory>
     requires index { IsIndex index.old records.now }
     requires new { placed.now.accepted ≡ false }
@@ -248,7 +248,7 @@ fn pop(records: &mut Vec<Placed>, index: &mut CallIndex, accepted: &mut u64, byt
     }
 }
 
-// Takes a record out of the index that stood behind these.
+// Takes a record that was behind these out of the index.
 fn forget(index: &mut CallIndex, placed: &Placed, records: &[Placed])
     requires { IsIndex index.old (records.now ++ placed.now ∷ []) }
     ensures { IsIndex index.new records.now }

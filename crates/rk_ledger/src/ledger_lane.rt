@@ -52,7 +52,7 @@ impl Model for LedgerLane {
 }
 
 impl LedgerLane {
-    /// The ledger of a lane where nothing happened. Takes no memory.
+    /// The ledger of a lane in which nothing happened. Takes no memory.
     pub fn new(alloc: Global) -> LedgerLane
         ensures { result ≡ new_ledger }
     {
@@ -94,7 +94,7 @@ impl LedgerLane {
         self.clients.last_call(client)
     }
 
-    /// A client that was added asks a new call, which stands in the place of its last one. One search; takes no memory.
+    /// A client that was added asks a new call, which takes the place of its last one. One search; takes no memory.
     pub fn ask(&mut self, client: u32, last: LastCall)
         requires added { is_added_lem self.old client ≡ true }
         requires room { self.old.asked < 2 ^ 64 - 1 }
@@ -134,7 +134,7 @@ impl LedgerLane {
         self.journal.records()
     }
 
-    /// The stamp of the last record, 0 where there is none. One step.
+    /// The stamp of the last record, 0 if there is none. One step.
     pub fn last_stamp(&self) -> u64
         ensures { result ≡ last_stamp_lem self.now.journal }
     {
@@ -177,7 +177,7 @@ impl LedgerLane {
     }
 
     /// Served calls get their records, in their order: a read with what its request had seen, a mutation with what its client
-    /// had seen when it asked, unless it has one. `NoMemory` comes also where a stamp or the bytes of the journal's values do
+    /// had seen when it asked, unless it has one. `NoMemory` comes also if a stamp or the bytes of the journal's values do
     /// not fit; nothing has changed then. For each call a few searches, and the time to copy it and its outcome.
     pub fn serve(&mut self, seen: u64, served: &[Served]) -> Result<(), NoMemory>
         ensures ok { OnOk result (self.new ≡ ledgers.with_all_served seen self.old served.now) }
@@ -186,7 +186,7 @@ impl LedgerLane {
         serve_all(&mut self.journal, &self.clients, seen, served)
     }
 
-    /// Takes the records from a place on away, counted from 0: as where a call that was served cannot be answered. For each
+    /// Takes the records from a place on away, counted from 0: as when a call that was served cannot be answered. For each
     /// of them a few searches; takes no memory.
     pub fn withdraw(&mut self, length: usize)
         ensures { self.new ≡ with_journal self.old (take length self.old.journal) }
@@ -204,7 +204,7 @@ impl LedgerLane {
     }
 
     /// A rebuild of a tablet is taken: each end of a client's last call here makes a record, unless that call has one, and no
-    /// log has a mark of the tablet any more that was made at its term or before. `NoMemory` comes also where a stamp or the
+    /// log has a mark of the tablet any more that was made at its term or before. `NoMemory` comes also if a stamp or the
     /// bytes of the journal's values do not fit; nothing has changed then. For each end a few searches and the time to copy a
     /// call, and a step for each mark.
     pub fn take_rebuilt(&mut self, rebuilt: &Rebuilt) -> Result<(), NoMemory>
@@ -225,7 +225,7 @@ impl LedgerLane {
         self.journal.accept(place);
     }
 
-    /// Each message gets stamp and place of its record, where it is a reply to a call that was carried out; `served` has the calls
+    /// Each message gets stamp and place of its record, if it is a reply to a call that was carried out; `served` has the calls
     /// that were served in the same step. For each message a step for each of these, and a search; takes no memory.
     pub fn fill(&self, served: &[Served], messages: &mut [Message])
         ensures { messages.new ≡ map (filled self.now.journal served.now) messages.old }

@@ -103,7 +103,7 @@ fn serve(
     )
 }
 
-// An end makes a record where it is that of its client's last call, and that call has none.
+// An end makes a record if it is that of its client's last call, and that call has none.
 fn take_end(journal: &mut Journal, clients: &Clients, end: &Ended) -> Result<(), NoMemory>
     ensures ok { OnOk result ((ledger : Ledger) → ledger.clients ≡ clients.now.last_calls
         → with_journal ledger journal.new ≡ with_end (with_journal ledger journal.old) end.now) }
@@ -145,7 +145,7 @@ fn seen_by(clients: &Clients, client: u32) -> u64
     }
 }
 
-// The outcome that an end tells.
+// The outcome that an end gives.
 fn outcome_of(end: End) -> Outcome
     ensures { result ≡ outcome_of_lem end }
 {

@@ -1,4 +1,4 @@
--- What a master in code stands for.
+-- What a master in code represents.
 use Rattle.std.specs.Prelude.{◌≡◌, false, Option, Some, None, if◌then◌else◌}
 use Rattle.rk_world.specs.Master.{Master}
 use Rattle.rk_world.specs.Worked.{Worked}
@@ -7,7 +7,7 @@ use Rattle.rk_master.specs.State.{IsState, master_of}
 use Rattle.rk_master.specs.declared.work.Worked.{Worked as Work}
 use Rattle.rk_master.specs.declared.master_lane.MasterLane.TheInside.{Inside}
 
--- the master, or none where it is spent
+-- the master, or none if it is spent
 abbrev pub lane_of : Inside → Option Master
 lane_of lane = if lane.spent then None else Some (master_of lane.state)
 

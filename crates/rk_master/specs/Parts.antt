@@ -1,4 +1,4 @@
--- What the parts of a master in code stand for.
+-- What the parts of a master in code represent.
 use Rattle.std.specs.Prelude.{IfSome, ⊤, ℕ, ◌==◌, ◌&&◌, not, if◌then◌else◌, List, [], ◌∷◌, ◌++◌, Option, Some, None, map}
 use Rattle.std.specs.Int.{w64}
 use Rattle.std.specs.List.{AllByRecursion}
@@ -58,19 +58,19 @@ behind before worked = record {
   marked = marks_of before.marked ++ worked.marked;
 }
 
--- the records after an entry was applied: an item goes into them where it is newer
+-- the records after an entry was applied: an item goes into them if it is newer
 abbrev pub with_items_of : Entry → List Held → List Held
 with_items_of (entries.Held held) records = with_newer held records
 with_items_of entry records = records
 
--- the entry that closes the role of a target can be spelled: of one that pulls its range and its term can, and of one that
--- has all the entry
+-- the entry that closes the role of a target can be spelled: if the target pulls, its range and its term can, and if it has
+-- all, the entry
 abbrev pub can_close : Role → Joined → Type 0
 can_close roles.Receiving joined = IsLawfulRange joined.range × IsNumber w64 1 joined.term
 can_close (roles.Joining None) joined = IsLawfulJoined joined
 can_close role joined = ⊤
 
--- the role of a tablet can be closed, where it is that of a target
+-- the role of a tablet can be closed, if it is that of a target
 abbrev pub IsClosable : Tablet → Type 0
 IsClosable tablet = can_close tablet.handover.role (record {
   range = tablet.handover.range;
@@ -82,7 +82,7 @@ IsClosable tablet = can_close tablet.handover.role (record {
 abbrev pub AreClosable : NumberMap Tablet → Type 0
 AreClosable tablets = AllByRecursion (λ entry. IsClosable entry.1) tablets
 
--- the tablets of a master stand by rising number, and what closes their roles can be spelled
+-- the tablets of a master are in order of rising number, and what closes their roles can be spelled
 pub record AreTablets (tablets : List (ℕ × TabletLane)) : Type 0 where
   pub order : IsInOrder tablets
   pub closable : AreClosable (tablets_of tablets)
@@ -95,12 +95,12 @@ served range = record { role = roles.Serving; term = 1; range = range; counter =
 abbrev pub changing : (ℕ → Tablet → Tablet) → ℕ × Tablet → ℕ × Tablet
 changing change entry = (entry.0, change entry.0 entry.1)
 
--- a tablet that is not that of this number is given up, where its range meets this one
+-- a tablet that is not that of this number is given up, if its range meets this one
 abbrev pub given_up_but : ℕ → Range → ℕ → Tablet → Tablet
 given_up_but kept range number tablet =
     if not (number == kept) && meets tablet.handover.range range then given_up tablet else tablet
 
--- where a Grant applies, the entry that begins what the target has of the tablet can be spelled
+-- if a Grant applies, the entry that begins what the target has of the tablet can be spelled
 abbrev pub IsGrantable : Master → Grant → Type 0
 IsGrantable master grant =
     IfSome (granted (tablet_at master grant.tenure.tablet).handover grant.tenure.term grant.floor)

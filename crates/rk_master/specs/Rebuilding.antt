@@ -22,7 +22,7 @@ CanBeSpelled master = All IsLawfulEntry master.log.entries
 abbrev pub with_items : Log → List Held → Log
 with_items log items = fold with_entry log (as_entries items)
 
--- the entries of the side segment of this number, where these are the bytes of each, from the first one on
+-- the entries of the side segment of this number, given the bytes of each, from the first one on
 abbrev pub side_read : List (List ℕ) → ℕ → List Entry
 side_read sides number =
     if nat_lt number FIRST_SIDE_SEGMENT then [] else entries_of (slice_index_or sides (number - FIRST_SIDE_SEGMENT) [])

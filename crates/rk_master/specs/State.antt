@@ -1,4 +1,4 @@
--- What the state of a master in code stands for.
+-- What the state of a master in code represents.
 use Rattle.std.specs.Prelude.{◌≡◌, ◌≤◌, length}
 use Rattle.rk_bucket_table.specs.Tables.{items_of as records_of}
 use Rattle.rk_world.specs.Master.{Master}

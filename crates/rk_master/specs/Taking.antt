@@ -19,7 +19,7 @@ abbrev pub CanTakeOfClient : ℕ → Body → Type 0
 CanTakeOfClient client (bodies.Request request) = IsLawfulCall (call_of client request)
 CanTakeOfClient client _ = ⊤
 
--- who tells what it stores is a backup of the master, and what a merge of the copies appends can be spelled
+-- who reports what it stores is a backup of the master, and what a merge of the copies appends can be spelled
 abbrev pub CanTakeOfBackup : Master → ℕ → Body → Type 0
 CanTakeOfBackup master backup (bodies.Stored stored) = IsBackup master.log backup
 CanTakeOfBackup master backup (bodies.Copy copy) = CanBeSpelled (copy_taken master copy).master

@@ -19,7 +19,7 @@ use rk_table::RecordTable;
 use rk_tablet::{TabletLane, outcome_of};
 use rk_types::{Answer, Call, End, Ended, Held, NoMemory};
 
-// The first end that an entry tells.
+// The first end that an entry records.
 fn first_end(entry: &Entry) -> Option<Ended>
     ensures { result ≡ slice_get (told_by entry.now) 0 }
 {
@@ -73,7 +73,7 @@ fn note_in_each(tablets: &mut [(u32, TabletLane)], call: &Call, end: Ended) -> R
 }
 
 /// Applies the entries that every backup holds and that are not applied. For each of them a few searches, what it takes
-/// to put an item into the records, and where a call ends a look at each tablet.
+/// to put an item into the records, and if a call ends, a look at each tablet.
 pub(crate) fn apply_held(state: &mut MasterState, work: &mut Worked) -> Result<(), NoMemory>
     requires { IsState state.old }
     ensures state { OnOk result (IsState state.new) }
@@ -87,7 +87,7 @@ pub(crate) fn apply_held(state: &mut MasterState, work: &mut Worked) -> Result<(
     Ok(())
 }
 
-// Applies the next entry, and tells the client of the call that waited for it.
+// Applies the next entry, and answers the client whose call waited for it.
 fn apply_next(state: &mut MasterState, work: &mut Worked) -> Result<(), NoMemory>
     requires state { IsState state.old }
     requires left { state.old.applied < length state.old.log.entries }
@@ -105,7 +105,7 @@ fn apply_next(state: &mut MasterState, work: &mut Worked) -> Result<(), NoMemory
     Ok(())
 }
 
-// Applies the next entry but for the call that waits for it, and answers the first end that the entry tells.
+// Applies the next entry but for the call that waits for it, and returns the first end that the entry records.
 fn apply_item(state: &mut MasterState) -> Result<Option<Ended>, NoMemory>
     requires state { IsState state.old }
     requires left { state.old.applied < length state.old.log.entries }
@@ -124,7 +124,7 @@ fn apply_item(state: &mut MasterState) -> Result<Option<Ended>, NoMemory>
     Ok(end)
 }
 
-// The place after this one, where an entry stands.
+// The place after that of an entry.
 fn next_place(log: &MasterLog, place: u64) -> u64
     requires { place < length log.now.entries }
     ensures { result ≡ place + 1 }
@@ -134,7 +134,7 @@ fn next_place(log: &MasterLog, place: u64) -> u64
     place + 1
 }
 
-// Puts the item that an entry is into the records, where it is newer than what is there. Two searches, and what an
+// Puts the item that an entry is into the records, if it is newer than what is there. Two searches, and what an
 // insertion takes.
 fn put_item(records: &mut BucketTable, entry: Entry) -> Result<(), NoMemory>
     ensures { OnOk result (records_of records.new ≡ with_items_of entry (records_of records.old)) }
@@ -147,8 +147,8 @@ fn put_item(records: &mut BucketTable, entry: Entry) -> Result<(), NoMemory>
     Ok(())
 }
 
-// Ends the call that waits for the entry at a place, if one does: its end is noted, and its client told. A look at each
-// tablet, and a search.
+// Ends the call that waits for the entry at a place, if one does: its end is noted, and its client answered. A look at
+// each tablet, and a search.
 fn end_call(
     state: &mut MasterState,
     work: &mut Worked,

@@ -55,7 +55,7 @@ fn has_duty(role: Role) -> bool
     )
 }
 
-// The duty for the tablet that stands at a place, by its role.
+// The duty for the tablet at a place, by its role.
 fn do_duty(state: &mut MasterState, at: usize, work: &mut Worked) -> Result<(), NoMemory>
     requires state { IsState state.old }
     requires within { at < length state.old.tablets.items }
@@ -83,8 +83,8 @@ fn do_duty(state: &mut MasterState, at: usize, work: &mut Worked) -> Result<(), 
     }
 }
 
-// The target at a place asks its source for what it lacks: for the outstanding hashes, where there are some, and then for
-// the batch from its token on. Where no hashes are outstanding, those that are wanted become so first.
+// The target at a place asks its source for what it lacks: for the outstanding hashes, if there are any, and then for
+// the batch from its token on. If no hashes are outstanding, those that are wanted become so first.
 fn ask_source(state: &mut MasterState, at: usize, work: &mut Worked) -> Result<(), NoMemory>
     requires state { IsState state.old }
     requires within { at < length state.old.tablets.items }
@@ -103,7 +103,7 @@ fn ask_source(state: &mut MasterState, at: usize, work: &mut Worked) -> Result<(
     Ok(())
 }
 
-// A target asks its source first for these hashes, where there are some.
+// A target asks its source first for these hashes, if there are any.
 fn send_want(
     number: u8,
     row: &(u32, TabletLane),
@@ -143,7 +143,7 @@ fn pull_of(number: u8, row: &(u32, TabletLane)) -> Message
     }
 }
 
-// A target says that it has all, where the entry that closes its role is applied.
+// A target reports that it has all, if the entry that closes its role is applied.
 fn tell_joined(
     state: &MasterState,
     row: &(u32, TabletLane),
@@ -167,8 +167,8 @@ fn tell_joined(
     Ok(())
 }
 
-// A rebuilding master reads on until the entry that closes its role is in the log; once that is applied, it says from where
-// on its entries count, and tells the ends that it merged.
+// A rebuilding master reads on until the entry that closes its role is in the log; once that is applied, it reports the
+// place from which its entries count, and the ends that it merged.
 fn rebuild(
     state: &MasterState,
     row: &(u32, TabletLane),
@@ -198,7 +198,7 @@ fn rebuild(
     Ok(())
 }
 
-// A rebuilding master asks backup 1 for the segment that it reads next, where there is one.
+// A rebuilding master asks backup 1 for the segment that it reads next, if there is one.
 fn read_next(
     state: &MasterState,
     row: &(u32, TabletLane),

@@ -1,7 +1,7 @@
-//! A master in one lane: what it makes of clients' requests, of what backups tell, of what other masters ask and tell, and
-//! of the coordinator's orders that hand a tablet over or rebuild it.
+//! A master in one lane: what it makes of clients' requests, of what backups report, of what other masters ask and
+//! answer, and of the coordinator's orders that hand a tablet over or rebuild it.
 //!
-//! It stands on `rk_world`, whose definitions say what a master does, and on `rk_tablet`, which is what it has of one tablet.
+//! It builds on `rk_world`, whose definitions say what a master does, and on `rk_tablet`, which is what it has of one tablet.
 //! What it promises: [`MasterLane::handle`] makes of a message just what the definitions do: the master after it, what it
 //! sends, which calls it served, and which piece of its log a rebuild made. On its [`MasterLane::turn`] it sends each backup
 //! what that lacks, and does for each tablet what its role asks for. Neither requests nor commits nor turns walk over the

@@ -30,7 +30,7 @@ use rk_types::{Held, NoMemory, Range};
 use std::alloc::Global;
 use std::marker::Model;
 
-/// A master in one lane. Contracts see the master that the definitions speak of, or none where it is spent: it ran out
+/// A master in one lane. Contracts see the master that the definitions speak of, or none if it is spent: it ran out
 /// of memory within a change, and answers `NoMemory` from then on.
 pub struct MasterLane {
     state: MasterState,
@@ -79,18 +79,18 @@ impl MasterLane {
         self.state.backups
     }
 
-    /// Takes a message, by its sender and its kind, each once more where it comes again; one that is for nobody here changes
+    /// Takes a message, by its sender and its kind, each once more if it comes again; a message for nobody here changes
     /// nothing. It stays with its owner: what the master keeps of it is copied.
     ///
     /// - A client's Request is answered at once, or staged. A look at each tablet, a few searches, and the time to copy the
     ///   key and the value and to spell the entry.
-    /// - A backup's Stored tells that it holds so much of a segment; more than the segment has is ignored. What every
+    /// - A backup's Stored reports that it holds so much of a segment; more than the segment has is ignored. What every
     ///   backup holds by then is applied, and what waited for it goes on. A step for each entry that is committed and each
-    ///   segment that the backup is now known to hold whole, a few searches for each entry and a look at each tablet where
-    ///   a call ends; a step for each staged entry only where a tablet closes.
+    ///   segment that the backup is now known to hold whole, a few searches for each entry and a look at each tablet if
+    ///   a call ends; a step for each staged entry only if a tablet closes.
     /// - The coordinator's orders (Prepare, Close, Grant, Own, Release, Rebuild) apply by a term that is great enough, and
-    ///   are told again where they have to be. A few binary searches and looks at each tablet; where one applies a step for
-    ///   each staged entry, for each client that is told or granted, or where a range is dropped for each record and each
+    ///   are answered again if need be. A few binary searches and looks at each tablet; if one applies, a step for each
+    ///   staged entry, for each client whose end is reported or granted, or if a range is dropped, for each record and each
     ///   chain of the table.
     /// - Another master's Pull or Want is answered by a tablet that is frozen at its term. A few searches, and a step for
     ///   each item and each chain from the token's bucket to the first live item behind the batch, or for each item in the
@@ -100,11 +100,11 @@ impl MasterLane {
     ///   records for each item and the time to copy and spell it, and a step for each segment that is sealed.
     /// - A backup's Copy is gathered by a rebuild that awaits just that; with the last one what was gathered is merged: the
     ///   copies are put at the end of the log, and then the entry that closes the rebuild. A look at each member of the
-    ///   lineage, and a step for each entry of the segment, or of the log that it ends; where a rebuild merges a step for
+    ///   lineage, and a step for each entry of the segment, or of the log that it ends; if a rebuild merges, a step for
     ///   each own entry from the place on from which the own log counts and each byte of the side segments that these name,
     ///   what [`rk_rebuild::Gather::merge`] takes, and the time to spell what is appended.
     ///
-    /// After `NoMemory` the master is spent; it also comes where no version of a tablet is left, the log is full, an entry
+    /// After `NoMemory` the master is spent; it also comes if no version of a tablet is left, the log is full, an entry
     /// has no room in a segment, there are 2^32 records to be pulled, or numbers of batches or side segments run out.
     pub fn handle(&mut self, message: Message) -> Result<Worked, NoMemory>
         requires { IfSome self.old (λ master. CanTake master message) }
@@ -122,11 +122,11 @@ impl MasterLane {
 
     /// Takes a turn: each backup is sent what it is not known to hold, and then each tablet gets what its role asks for, by
     /// rising number. A target asks its source for the batch from its token on, and before it for the hashes that calls
-    /// wait for, where there are some. A rebuild that gathers asks backup 1 for the segment that it reads next. A target
-    /// whose closing entry is applied tells the coordinator that it has all, and such a rebuild from where on its entries
-    /// count, and the ends that it merged. After `NoMemory` the master is spent. A look at each backup and each tablet,
-    /// for a rebuild that gathers also at each member and a search for a side segment, and the time to copy what is sent: a
-    /// turn with nothing to send costs nothing more.
+    /// wait for, if there are any. A rebuild that gathers asks backup 1 for the segment that it reads next. A target whose
+    /// closing entry is applied reports to the coordinator that it has all, and such a rebuild the place from which its
+    /// entries count, and the ends that it merged. After `NoMemory` the master is spent. A look at each backup and each
+    /// tablet, for a rebuild that gathers also at each member and a search for a side segment, and the time to copy what is
+    /// sent: a turn with nothing to send costs nothing more.
     pub fn turn(&mut self) -> Result<Worked, NoMemory>
         ensures ok { IfOk result (λ work. IsSomeAnd self.old (λ master. IsWork (master_turn master) self.new work)) }
         ensures err { OnErr result (self.new ≡ None) }
@@ -141,15 +141,15 @@ impl MasterLane {
     }
 
     /// Whether it is known at a look that a turn would send nothing: every backup holds the whole log, and the role of no
-    /// tablet has a duty. False where the master is spent. A look at each backup and each tablet, which takes no memory where
-    /// it is true; else also the time to copy what one backup lacks.
+    /// tablet has a duty. False if the master is spent. A look at each backup and each tablet, which takes no memory if it
+    /// is true; else also the time to copy what one backup lacks.
     pub fn rests(&self) -> bool
         ensures { result ≡ true → IfSome self.now (λ master. (master_turn master).sends ≡ []) }
     {
         !self.spent && rests(&self.state)
     }
 
-    /// Adds a tablet, which is served from now on. `NoMemory` also where the master is spent; nothing has changed then. A
+    /// Adds a tablet, which is served from now on. `NoMemory` also if the master is spent; nothing has changed then. A
     /// binary search, and what an insertion takes.
     pub fn add(&mut self, tablet: u32, range: Range) -> Result<(), NoMemory>
         ensures ok { OnOk result (IsSomeAnd self.old (λ master. self.new ≡ Some (with_added master tablet range))) }
@@ -162,7 +162,7 @@ impl MasterLane {
         Ok(())
     }
 
-    /// Splits a tablet at a hash, where both parts of its range have one; else nothing changes. Both parts are served from
+    /// Splits a tablet at a hash, if both parts of its range have one; else nothing changes. Both parts are served from
     /// now on at this term, the part from the hash on under the number `new`, with the tablet's counter and completions.
     /// After `NoMemory` the master is spent. Three binary searches, what an insertion takes, and a copy of the completions
     /// and of what was pulled.
@@ -179,8 +179,8 @@ impl MasterLane {
         Ok(())
     }
 
-    /// How many bytes the segments of the master have, those of side logs that are not sealed too, where that is below
-    /// 2^64, and else 2^64 - 1; 0 where it is spent. Each entry of its log fits a segment. A look at each tablet.
+    /// How many bytes the segments of the master have, those of side logs that are not sealed too, if that is below
+    /// 2^64, and else 2^64 - 1; 0 if it is spent. Each entry of its log fits a segment. A look at each tablet.
     pub fn log_bytes(&self) -> u64
         ensures bytes { result ≡ option_map_or (λ master. min (log_bytes_lem master) (2 ^ 64 - 1)) self.now 0 }
         ensures fits { IfSome self.now (λ master. EachFits master.log.entries) }
@@ -191,7 +191,7 @@ impl MasterLane {
         log_bytes(&self.state)
     }
 
-    /// The greatest counter of a tablet, and 0 where there is none or the master is spent. A look at each tablet.
+    /// The greatest counter of a tablet, and 0 if there is none or the master is spent. A look at each tablet.
     pub fn greatest_counter(&self) -> u64
         ensures { result ≡ option_map_or (λ master. greatest (counters_of master)) self.now 0 }
     {
@@ -201,7 +201,7 @@ impl MasterLane {
         greatest_counter(self.state.tablets.as_slice())
     }
 
-    /// How many records there are, tombstones among them; 0 where the master is spent. In constant time.
+    /// How many records there are, tombstones among them; 0 if the master is spent. In constant time.
     pub fn records(&self) -> u64
         ensures { result ≡ option_map_or (λ master. length master.records) self.now 0 }
     {
@@ -211,7 +211,7 @@ impl MasterLane {
         self.state.records.len() as u64
     }
 
-    /// What the master does for a tablet; nothing where it is spent. A binary search.
+    /// What the master does for a tablet; nothing if it is spent. A binary search.
     pub fn role(&self, tablet: u32) -> Role
         ensures { result ≡ option_map_or (λ master. (tablet_at master tablet).handover.role) self.now Role.Absent }
     {
@@ -221,7 +221,7 @@ impl MasterLane {
         handover_of(self.state.tablets.as_slice(), tablet).role
     }
 
-    /// The next version of a tablet, which is 1 for one that the master does not know; 0 where it is spent. A binary search.
+    /// The next version of a tablet, which is 1 if the master does not know it; 0 if the master is spent. A binary search.
     pub fn counter(&self, tablet: u32) -> u64
         ensures { result ≡ option_map_or (λ master. (tablet_at master tablet).handover.counter) self.now 0 }
     {
@@ -231,7 +231,7 @@ impl MasterLane {
         handover_of(self.state.tablets.as_slice(), tablet).counter
     }
 
-    /// The term of a tablet, which is 0 for one that the master does not know; 0 where it is spent. A binary search.
+    /// The term of a tablet, which is 0 if the master does not know it, or is spent. A binary search.
     pub fn term(&self, tablet: u32) -> u64
         ensures { result ≡ option_map_or (λ master. (tablet_at master tablet).handover.term) self.now 0 }
     {
@@ -241,7 +241,7 @@ impl MasterLane {
         handover_of(self.state.tablets.as_slice(), tablet).term
     }
 
-    /// Whether a tablet asked for hashes that have not come, or has some to ask for; false where the master is spent. A
+    /// Whether a tablet asked for hashes that have not come, or has some to ask for; false if the master is spent. A
     /// binary search.
     pub fn is_waiting(&self, tablet: u32) -> bool
         ensures { result ≡ option_map_or (λ master. is_waiting_lem (tablet_at master tablet).pulling.hashes) self.now false }
@@ -249,7 +249,7 @@ impl MasterLane {
         !self.spent && is_waiting(self.state.tablets.as_slice(), tablet)
     }
 
-    /// How many entries of the log are applied; 0 where the master is spent. In constant time.
+    /// How many entries of the log are applied; 0 if the master is spent. In constant time.
     pub fn applied(&self) -> u64
         ensures { result ≡ option_map_or (λ master. master.applied) self.now 0 }
     {
@@ -259,7 +259,7 @@ impl MasterLane {
         self.state.applied
     }
 
-    /// Appends duplicates of the live records of the range, in scan order; none where the master is spent. After
+    /// Appends duplicates of the live records of the range, in scan order; none if the master is spent. After
     /// `NoMemory` `into` is as it was. A step for each record and each chain of the table.
     pub fn live_items(&self, range: &Range, into: &mut Vec<Held>) -> Result<(), NoMemory>
         ensures ok { OnOk result (into.new.items ≡ into.old.items
@@ -272,7 +272,7 @@ impl MasterLane {
         self.state.records.live_items(range, into)
     }
 
-    /// How many entries of the log are not applied; 0 where the master is spent. In constant time.
+    /// How many entries of the log are not applied; 0 if the master is spent. In constant time.
     pub fn staged(&self) -> u64
         ensures { result ≡ option_map_or (λ master. length (staged master)) self.now 0 }
     {
@@ -282,7 +282,7 @@ impl MasterLane {
         self.state.log.length() - self.state.applied
     }
 
-    /// Whether the call of a client with a seq waits for its entry to be applied; false where the master is spent. A search.
+    /// Whether the call of a client with a seq waits for its entry to be applied; false if the master is spent. A search.
     pub fn staged_call(&self, client: u32, seq: u64) -> bool
         ensures { result ≡ option_map_or (λ master. is_staged master client seq) self.now false }
     {
@@ -303,7 +303,7 @@ impl MasterLane {
         &self.state.log
     }
 
-    /// The bytes of a main or side segment of the log, lent; none where there is no such segment. In constant time.
+    /// The bytes of a main or side segment of the log, lent; none if there is no such segment. In constant time.
     pub fn segment(&self, number: u32) -> &[u8]
         ensures { IfSome self.now (λ master. result.now ≡ bytes_of master.log number) }
     {

@@ -22,8 +22,8 @@ use rk_tablet::completions_of;
 use rk_transfer::{Handover, Role};
 use rk_types::{NoMemory, Node};
 
-/// A master takes a Close: the tablet answers no more calls, and once nothing of it is staged its Transfer is told, also
-/// again. One binary search, a step for each staged entry, and one for each client where the Transfer is told.
+/// A master takes a Close: the tablet answers no more calls, and once nothing of it is staged its Transfer is sent, also
+/// again. One binary search, a step for each staged entry, and one for each client if the Transfer is sent.
 pub(crate) fn take_close(state: &mut MasterState, tenure: Tenure) -> Result<Worked, NoMemory>
     requires { IsState state.old }
     ensures state { OnOk result (IsState state.new) }
@@ -36,7 +36,7 @@ pub(crate) fn take_close(state: &mut MasterState, tenure: Tenure) -> Result<Work
     tell_frozen(state, at, tenure)
 }
 
-/// A master takes an Own: the tablet is served as its own, and what was pulled is forgotten, where the entry that closes its
+/// A master takes an Own: the tablet is served as its own, and what was pulled is forgotten, if the entry that closes its
 /// role is applied. One binary search.
 pub(crate) fn take_own(state: &mut MasterState, tenure: Tenure) -> Worked
     requires { IsState state.old }
@@ -50,7 +50,7 @@ pub(crate) fn take_own(state: &mut MasterState, tenure: Tenure) -> Worked
     state.nothing()
 }
 
-// The tablet at a place is owned where that move applies.
+// The tablet at a place is owned if that move applies.
 fn own(state: &mut MasterState, at: usize, tenure: Tenure)
     requires state { IsState state.old }
     requires place { IsAt tenure.tablet state.old.tablets.items at }
@@ -65,8 +65,8 @@ fn own(state: &mut MasterState, at: usize, tenure: Tenure)
     tablet.pull_from(0);
 }
 
-/// A master takes a Release: the frozen tablet is absent, and its items are dropped. One binary search, and where it
-/// applies a look at each record.
+/// A master takes a Release: the frozen tablet is absent, and its items are dropped. One binary search, and if it
+/// applies, a look at each record.
 pub(crate) fn take_release(state: &mut MasterState, tenure: Tenure) -> Worked
     requires { IsState state.old }
     ensures state { IsState state.new }
@@ -79,7 +79,7 @@ pub(crate) fn take_release(state: &mut MasterState, tenure: Tenure) -> Worked
     state.nothing()
 }
 
-// The tablet at a place is released where that move applies.
+// The tablet at a place is released if that move applies.
 fn release(state: &mut MasterState, at: usize, tenure: Tenure)
     requires state { IsState state.old }
     requires place { IsAt tenure.tablet state.old.tablets.items at }
@@ -95,9 +95,9 @@ fn release(state: &mut MasterState, at: usize, tenure: Tenure)
     state.records.drop_range(&range);
 }
 
-/// A master takes a Prepare: it drops the items of the range, gives up each other tablet there, and says where its entries
-/// of the tablet begin; where it made ready at this term it says so again. One binary search and a look at each tablet;
-/// where it applies, one more of each, and a look at each record.
+/// A master takes a Prepare: it drops the items of the range, gives up each other tablet there, and reports where its
+/// entries of the tablet begin; if it made ready at this term, it reports that again. One binary search and a look at
+/// each tablet; if it applies, one more of each, and a look at each record.
 pub(crate) fn take_prepare(state: &mut MasterState, prepare: Prepare) -> Result<Worked, NoMemory>
     requires { IsState state.old }
     ensures state { OnOk result (IsState state.new) }
@@ -161,9 +161,9 @@ fn make_ready(state: &mut MasterState, prepare: Prepare, before: Handover) -> Re
     Ok(())
 }
 
-/// A master takes a Grant: the tablet is served by what its source told, and pulled from there, where this master made
-/// ready at its term. `NoMemory` also where the log is full, or the ends have no room in a segment. One binary search, and
-/// where it applies a search for each end, and the time to copy the ends and to spell the entry.
+/// A master takes a Grant: the tablet is served by what its source reported, and pulled from there, if this master made
+/// ready at its term. `NoMemory` also if the log is full, or the ends have no room in a segment. One binary search, and
+/// if it applies, a search for each end, and the time to copy the ends and to spell the entry.
 pub(crate) fn take_grant(state: &mut MasterState, grant: &Grant) -> Result<Worked, NoMemory>
     requires state { IsState state.old }
     requires lawful { IsGrantable (master_of state.old) grant.now }
@@ -177,7 +177,7 @@ pub(crate) fn take_grant(state: &mut MasterState, grant: &Grant) -> Result<Worke
     Ok(state.nothing())
 }
 
-// The tablet at a place is received where that move applies.
+// The tablet at a place is received if that move applies.
 fn receive(state: &mut MasterState, at: usize, grant: &Grant) -> Result<(), NoMemory>
     requires state { IsState state.old }
     requires place { IsAt grant.now.tenure.tablet state.old.tablets.items at }
@@ -210,7 +210,7 @@ fn carried_entry(handover: Handover, grant: &Grant) -> Result<Entry, NoMemory>
     }))
 }
 
-// The tablet at a place closes where that move applies, and freezes at once where nothing of it is staged. A step for each
+// The tablet at a place closes if that move applies, and freezes at once if nothing of it is staged. A step for each
 // staged entry.
 fn close(state: &mut MasterState, at: usize, tenure: Tenure)
     requires state { IsState state.old }
@@ -228,7 +228,7 @@ fn close(state: &mut MasterState, at: usize, tenure: Tenure)
     freeze_at(state, at);
 }
 
-// Where the tablet at a place is frozen at this term, what its next owner has to know is told. A step for each client.
+// If the tablet at a place is frozen at this term, what its next owner has to know is sent. A step for each client.
 fn tell_frozen(state: &MasterState, at: usize, tenure: Tenure) -> Result<Worked, NoMemory>
     requires order { IsInOrder state.now.tablets.items }
     requires place { IsAt tenure.tablet state.now.tablets.items at }

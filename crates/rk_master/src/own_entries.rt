@@ -16,7 +16,7 @@ use rk_world::Merged;
 use std::alloc::Global;
 
 /// What a rebuild makes of what its tablet has gathered, and of the master's own entries of the range from a place on.
-/// `NoMemory` also where the log is full, since nothing could be appended to it. The time to read the own
+/// `NoMemory` also if the log is full, since nothing could be appended to it. The time to read the own
 /// entries and the side segments that they name, and what [`rk_rebuild::Gather::merge`] takes.
 pub(crate) fn merged(
     alloc: Global,
@@ -40,15 +40,15 @@ pub(crate) fn merged(
     tablet.merge(alloc, counted.as_slice())
 }
 
-// The entries of a log from a place on; none where it has fewer. It takes the time to read them.
+// The entries of a log from a place on; none if it has fewer. It takes the time to read them.
 fn entries_behind(log: &MasterLog, from: u64) -> Result<Vec<Entry>, NoMemory>
     ensures { IfOk result (λ entries. entries.items ≡ drop from log.now.entries) }
 {
     log.entries_from(from.min(log.length()))
 }
 
-// The entries of these side segments, by number; one that is not there has none. A step for each byte of them, and a
-// search for each segment.
+// The entries of these side segments, by number; a segment that is not there has none. A step for each byte of them, and
+// a search for each segment.
 fn sides_read(
     alloc: Global,
     log: &MasterLog,

@@ -35,9 +35,9 @@ const MOST_BYTES: u64 = 1 << 63;
 // So many side segments are the most that the entry that closes a role names.
 const MOST_SEALED: usize = 32_000;
 
-/// A master takes a Pulled: where the tablet pulls at its term and awaits that batch, the batch is replayed by the worker
-/// whose turn it is; behind the last one the side logs are sealed, and the tablet has all. A binary search; where it is
-/// awaited the time to copy its items and to spell them, and a search of the records for each; behind the last batch a
+/// A master takes a Pulled: if the tablet pulls at its term and awaits that batch, the batch is replayed by the worker
+/// whose turn it is; behind the last one the side logs are sealed, and the tablet has all. A binary search; if it is
+/// awaited, the time to copy its items and to spell them, and a search of the records for each; behind the last batch a
 /// step for each segment that is sealed.
 pub(crate) fn take_pulled(state: &mut MasterState, pulled: &Pulled) -> Result<Worked, NoMemory>
     requires state { IsState state.old }
@@ -134,8 +134,8 @@ fn seal_at(state: &mut MasterState, at: usize) -> Result<(), NoMemory>
     Ok(())
 }
 
-// Puts segments beside the log, and answers the numbers that they have from now on. `NoMemory` too where they are more
-// than an entry names, or where no number is left. A step for each of them.
+// Puts segments beside the log, and returns the numbers that they have from now on. `NoMemory` too if they are more
+// than an entry names, or if no number is left. A step for each of them.
 fn add_sides(log: &mut MasterLog, segments: Vec<Segment>) -> Result<Listed<u32>, NoMemory>
     ensures log { OnOk result (log.new ≡ with_sides log.old (bytes_in segments.items)) }
     ensures numbers { IfOk result (λ numbers. numbers
@@ -166,7 +166,7 @@ fn add_side(log: &mut MasterLog, segment: Segment) -> Result<u32, NoMemory>
     log.add_side(segment)
 }
 
-// The target at a place, whose side logs are sealed, has all; where there was nothing to seal, its closing entry is
+// The target at a place, whose side logs are sealed, has all; if there was nothing to seal, its closing entry is
 // appended at once.
 fn end_at(state: &mut MasterState, at: usize) -> Result<(), NoMemory>
     requires state { IsState state.old }
@@ -189,8 +189,8 @@ fn end_at(state: &mut MasterState, at: usize) -> Result<(), NoMemory>
     Ok(())
 }
 
-/// A master takes a Got: where the tablet pulls at its term and these are the hashes that it asked for, the items are
-/// replayed, and the hashes have come. A binary search; where they are those the time to copy the items and to spell them,
+/// A master takes a Got: if the tablet pulls at its term and these are the hashes that it asked for, the items are
+/// replayed, and the hashes have come. A binary search; if they are those, the time to copy the items and to spell them,
 /// and a search of the records for each.
 pub(crate) fn take_got(state: &mut MasterState, got: &Got) -> Result<Worked, NoMemory>
     requires state { IsState state.old }
@@ -209,7 +209,7 @@ pub(crate) fn take_got(state: &mut MasterState, got: &Got) -> Result<Worked, NoM
     Ok(state.nothing())
 }
 
-// The tablet at a place, which pulls, takes the items that it asked for first, where they are those.
+// The tablet at a place, which pulls, takes the items that it asked for first, if they are those.
 fn resolve(state: &mut MasterState, at: usize, got: &Got) -> Result<(), NoMemory>
     requires state { IsState state.old }
     requires place { IsAt got.now.tenure.tablet state.old.tablets.items at }

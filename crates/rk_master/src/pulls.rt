@@ -25,8 +25,8 @@ use std::alloc::Global;
 // So many records are too many for the token of a batch.
 const MOST_RECORDS: usize = 1 << 32;
 
-/// A master takes a Pull of a node: where the tablet is frozen at its term, it answers with the batch from the token on.
-/// `NoMemory` also where there are [`MOST_RECORDS`]. A search, and a step for each item and each chain of the records from the
+/// A master takes a Pull of a node: if the tablet is frozen at its term, it answers with the batch from the token on.
+/// `NoMemory` also if there are [`MOST_RECORDS`]. A search, and a step for each item and each chain of the records from the
 /// token's bucket to the first live item of the range behind the batch.
 pub(crate) fn take_pull(state: &MasterState, from: Node, pull: Pull) -> Result<Worked, NoMemory>
     requires state { IsState state.now }
@@ -38,7 +38,7 @@ pub(crate) fn take_pull(state: &MasterState, from: Node, pull: Pull) -> Result<W
     answer_pull(state, at, from, pull)
 }
 
-// The tablet at a place answers a Pull where it is frozen at its term.
+// The tablet at a place answers a Pull if it is frozen at its term.
 fn answer_pull(state: &MasterState, at: usize, from: Node, pull: Pull) -> Result<Worked, NoMemory>
     requires order { IsInOrder state.now.tablets.items }
     requires place { IsAt pull.tenure.tablet state.now.tablets.items at }
@@ -53,7 +53,7 @@ fn answer_pull(state: &MasterState, at: usize, from: Node, pull: Pull) -> Result
     Ok(work)
 }
 
-/// A master takes a Want of a node: where the tablet is frozen at its term, it answers with the live items that have the
+/// A master takes a Want of a node: if the tablet is frozen at its term, it answers with the live items that have the
 /// wanted hashes. A search for the tablet and one for each hash, a step for each item that has it, and a copy of the hashes.
 pub(crate) fn take_want(state: &MasterState, from: Node, want: &Want) -> Result<Worked, NoMemory>
     requires state { IsState state.now }
@@ -65,7 +65,7 @@ pub(crate) fn take_want(state: &MasterState, from: Node, want: &Want) -> Result<
     answer_want(state, at, from, want)
 }
 
-// The tablet at a place answers a Want where it is frozen at its term.
+// The tablet at a place answers a Want if it is frozen at its term.
 fn answer_want(state: &MasterState, at: usize, from: Node, want: &Want) -> Result<Worked, NoMemory>
     requires order { IsInOrder state.now.tablets.items }
     requires place { IsAt want.now.tenure.tablet state.now.tablets.items at }
@@ -81,7 +81,7 @@ fn answer_want(state: &MasterState, at: usize, from: Node, want: &Want) -> Resul
 }
 
 impl MasterState {
-    // The live items of a range from the token of a Pull on, for the node that pulls. `NoMemory` also where the records
+    // The live items of a range from the token of a Pull on, for the node that pulls. `NoMemory` also if the records
     // cannot be counted by 32 bits.
     fn batch_message(&self, to: Node, range: &Range, pull: Pull) -> Result<Message, NoMemory>
         ensures { IfOk result (λ message. message ≡ batch_answer (master_of self.now) to range.now pull) }

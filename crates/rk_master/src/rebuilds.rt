@@ -24,9 +24,9 @@ use rk_types::{Member, NoMemory};
 use rk_world::{Mark, Merged};
 
 /// A master takes a Rebuild: it gives up each other tablet of the range, and gathers what the logs of the lineage have;
-/// where no log but its own is of the lineage, it merges at once. `NoMemory` also where the log is full, or an entry has
-/// no room in a segment. A few binary searches and two looks at each tablet; where it applies at a master outside the
-/// lineage one at each record, and a copy of the lineage; and what a merge takes, where it comes to that.
+/// if no log but its own is of the lineage, it merges at once. `NoMemory` also if the log is full, or an entry has no
+/// room in a segment. A few binary searches and two looks at each tablet; if it applies at a master outside the lineage,
+/// one at each record, and a copy of the lineage; and what a merge takes, if it comes to that.
 pub(crate) fn take_rebuild(state: &mut MasterState, rebuild: &Rebuild) -> Result<Worked, NoMemory>
     requires state { IsState state.old }
     requires lawful { CanBeSpelled (rebuilds.rebuild_taken (master_of state.old) rebuild.now).master }
@@ -94,10 +94,10 @@ fn own_member(lineage: &[Member], master: u8) -> Option<Member>
     None
 }
 
-/// A master takes the copy of a segment, where it awaits just that: the rebuild gathers it, and once all is gathered,
-/// merges. `NoMemory` also where the log is full, or an entry has no room in a segment. A few binary searches, a look at
+/// A master takes the copy of a segment, if it awaits just that: the rebuild gathers it, and once all is gathered,
+/// merges. `NoMemory` also if the log is full, or an entry has no room in a segment. A few binary searches, a look at
 /// each member of the lineage, a step for each entry of the segment, or of the log that it ends; and what a merge takes,
-/// where it comes to that.
+/// if it comes to that.
 pub(crate) fn take_copy(state: &mut MasterState, copy: &CopySegment) -> Result<Worked, NoMemory>
     requires state { IsState state.old }
     requires lawful { CanBeSpelled (rebuilds.copy_taken (master_of state.old) copy.now).master }
@@ -130,7 +130,7 @@ fn gather(state: &mut MasterState, copy: &CopySegment) -> Result<bool, NoMemory>
 }
 
 // A rebuild goes on by what its tablet has gathered: it waits while a segment is left to read, and then merges. A
-// binary search, a look at each member of the lineage; and where it merges a step for each byte of the side segments
+// binary search, a look at each member of the lineage; and if it merges, a step for each byte of the side segments
 // that its own entries name, a search for each entry that counts, and the time to spell what is appended.
 fn go_on(state: &mut MasterState, tablet: u32) -> Result<Worked, NoMemory>
     requires state { IsState state.old }

@@ -1,4 +1,4 @@
-// What a master makes of a request: a choice, and what the choice changes, tells and serves.
+// What a master makes of a request: a choice, and what the choice changes, sends and serves.
 ghost use Rattle.std.specs.Prelude.{◌≡◌, ℕ, true, IfOk, IsSome, OnOk};
 ghost use Rattle.rk_types.specs.NumberMap.{get};
 ghost use Rattle.rk_world.specs.Premises.{IsLawfulCall};

@@ -12,7 +12,7 @@ use crate::tablets::{hand, search};
 use rk_tablet::{TabletLane, half_of};
 use rk_types::{NoMemory, Range};
 
-/// The tablet of this number is split at a hash, where both parts have one: both are served from now on at this term, the
+/// The tablet of this number is split at a hash, if both parts have one: both are served from now on at this term, the
 /// part from the hash on under the number `new`. Three binary searches, what an insertion takes, and a copy of what the
 /// tablet has.
 pub(crate) fn split(
@@ -41,7 +41,7 @@ pub(crate) fn split(
     Ok(())
 }
 
-// Whether both parts of a range have a hash, where it is split at this one.
+// Whether both parts of a range have a hash if it is split at this one.
 fn has_parts(range: &Range, at: u64) -> bool
     ensures { result ≡ splits.has_parts range.now at }
 {

@@ -21,7 +21,7 @@ use rk_types::{Call, Held, NoMemory, SEGMENT_BYTES};
 /// A log with so many bytes takes no more entries.
 pub const MOST_LOG_BYTES: u64 = 1 << 31;
 
-/// Puts an entry at the end of the log, where it is staged. `NoMemory` also where the log has
+/// Puts an entry at the end of the log, where it is staged. `NoMemory` also if the log has
 /// [`MOST_LOG_BYTES`], or the entry has no room in a segment. The time to spell the entry, and two searches.
 pub(crate) fn append(
     log: &mut MasterLog,
@@ -71,7 +71,7 @@ fn stage(state: &mut MasterState, call: Call, entry: Entry) -> Result<(), NoMemo
     Ok(())
 }
 
-/// Stages a write or a removal at the tablet of this number, whose counter rises. `NoMemory` also where no version is
+/// Stages a write or a removal at the tablet of this number, whose counter rises. `NoMemory` also if no version is
 /// left, or the log is full. The time to spell the entry, and a few searches.
 pub(crate) fn stage_write(state: &mut MasterState, number: u32, call: Call) -> Result<(), NoMemory>
     requires state { IsState state.old }
@@ -87,7 +87,7 @@ pub(crate) fn stage_write(state: &mut MasterState, number: u32, call: Call) -> R
     Ok(())
 }
 
-/// Stages a refusal. `NoMemory` also where the log is full. The time to spell the entry, and a search.
+/// Stages a refusal. `NoMemory` also if the log is full. The time to spell the entry, and a search.
 pub(crate) fn stage_refusal(
     state: &mut MasterState,
     call: Call,

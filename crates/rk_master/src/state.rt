@@ -27,7 +27,7 @@ use rk_world::Choice;
 use std::alloc::Global;
 
 /// All that a master has in a lane. Contracts see it by its fields, and say by `master_of` which master of the
-/// definitions it stands for.
+/// definitions it represents.
 #[derive(Drop)]
 pub(crate) struct MasterState {
     pub(crate) number: u8,

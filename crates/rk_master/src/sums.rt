@@ -9,7 +9,7 @@ ghost use Rattle.rk_master.specs.State.{master_of};
 use crate::state::MasterState;
 use rk_tablet::TabletLane;
 
-/// How many bytes a master's segments have, and those of side logs that are not sealed; 2^64 - 1 where they are more. A look
+/// How many bytes a master's segments have, and those of side logs that are not sealed; 2^64 - 1 if they are more. A look
 /// at each tablet.
 pub(crate) fn log_bytes(state: &MasterState) -> u64
     ensures bytes { result ≡ min (log_bytes_lem (master_of state.now)) (2 ^ 64 - 1) }
@@ -19,7 +19,7 @@ pub(crate) fn log_bytes(state: &MasterState) -> u64
     state.log.size().saturating_add(unsealed)
 }
 
-// How many bytes the side logs of tablets have that are not sealed; 2^64 - 1 where they are more.
+// How many bytes the side logs of tablets have that are not sealed; 2^64 - 1 if they are more.
 fn unsealed_bytes(tablets: &[(u32, TabletLane)]) -> u64
     ensures { result ≡ min (sum (map (λ entry. unsealed_bytes_lem entry.1) (tablets_of tablets.now))) (2 ^ 64 - 1) }
 {
@@ -30,7 +30,7 @@ fn unsealed_bytes(tablets: &[(u32, TabletLane)]) -> u64
     bytes
 }
 
-/// The greatest counter of tablets, and 0 where there is none. A look at each tablet.
+/// The greatest counter of tablets, and 0 if there is none. A look at each tablet.
 pub(crate) fn greatest_counter(tablets: &[(u32, TabletLane)]) -> u64
     ensures { result ≡ greatest (map (λ entry. entry.1.handover.counter) (tablets_of tablets.now)) }
 {

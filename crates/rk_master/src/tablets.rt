@@ -31,7 +31,7 @@ const NO_HANDOVER: Handover = Handover {
     counter: 1,
 };
 
-/// The place of the tablet of this number, or where it would stand. One binary search.
+/// The place of the tablet of this number, or where it would be inserted. One binary search.
 pub(crate) fn search(tablets: &[(u32, TabletLane)], number: u32) -> Result<usize, usize>
     requires { IsInOrder tablets.now }
     ensures found { IfOk result (IsAt number tablets.now) }
@@ -49,7 +49,7 @@ pub(crate) fn place_of(tablets: &[(u32, TabletLane)], number: u32) -> usize
     search(tablets, number).unwrap()
 }
 
-/// Gives the next version of the tablet of this number, which is there: its counter rises by one. `NoMemory` where no
+/// Gives the next version of the tablet of this number, which is there: its counter rises by one. `NoMemory` if no
 /// version is left. One binary search.
 pub(crate) fn next_version(tablets: &mut [(u32, TabletLane)], number: u32) -> Result<u64, NoMemory>
     requires tablets { AreTablets tablets.old }
@@ -96,7 +96,7 @@ pub(crate) fn begin_gather(tablets: &mut [(u32, TabletLane)], number: u32, gathe
     tablet.begin_gather(gather);
 }
 
-/// The handover of the tablet of this number; of one that is not there the role is Absent and the term 0. One binary
+/// The handover of the tablet of this number; if it is not there, the role is Absent and the term 0. One binary
 /// search.
 pub(crate) fn handover_of(tablets: &[(u32, TabletLane)], number: u32) -> Handover
     requires { IsInOrder tablets.now }
@@ -142,7 +142,7 @@ pub(crate) fn give_up_others(tablets: &mut [(u32, TabletLane)], number: u32, ran
     }
 }
 
-// A tablet is given up where it is not that of `kept` and its range meets this one.
+// A tablet is given up if it is not that of `kept` and its range meets this one.
 fn give_up_other(tablet: &mut TabletLane, number: u32, kept: u32, range: &Range)
     ensures { tablet_of tablet.new ≡ given_up_but kept range.now number (tablet_of tablet.old) }
 {
@@ -210,8 +210,8 @@ pub(crate) fn hand(
     }
 }
 
-// A tablet that the master does not know is put with this handover where it would stand. After `NoMemory` nothing has
-// changed. What an insertion takes.
+// A tablet that the master does not know is inserted with this handover where its number belongs. After `NoMemory`
+// nothing has changed. What an insertion takes.
 fn insert_new(
     tablets: &mut Vec<(u32, TabletLane)>,
     at: usize,

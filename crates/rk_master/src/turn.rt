@@ -70,7 +70,7 @@ fn send_pending(state: &MasterState, work: &mut Worked) -> Result<(), NoMemory>
     Ok(())
 }
 
-// A backup is sent what it lacks, where it lacks something. The time to copy that.
+// A backup is sent what it lacks, if it lacks something. The time to copy that.
 fn send_to(state: &MasterState, backup: u8, work: &mut Worked) -> Result<(), NoMemory>
     requires { IsBackup state.now.log backup }
     ensures sends { OnOk result (work.new.sends.items

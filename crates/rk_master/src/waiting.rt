@@ -21,8 +21,8 @@ use rk_tablet::TabletLane;
 use rk_transfer::Role;
 use rk_types::{Key, NoMemory, Range, hash};
 
-/// What was waited for goes on, tablet by tablet. A look at each tablet; at one that closes a step for each staged entry,
-/// and at a target that has all one for each of its side segments and each backup.
+/// What was waited for goes on, tablet by tablet. A look at each tablet; for a tablet that closes, a step for each staged
+/// entry, and for a target that has all, one for each of its side segments and each backup.
 pub(crate) fn go_on(state: &mut MasterState) -> Result<(), NoMemory>
     requires { IsState state.old }
     ensures state { OnOk result (IsState state.new) }
@@ -34,7 +34,7 @@ pub(crate) fn go_on(state: &mut MasterState) -> Result<(), NoMemory>
     Ok(())
 }
 
-// What was waited for goes on at the tablet that stands at a place.
+// What was waited for goes on in the tablet at a place.
 fn go_on_at(state: &mut MasterState, at: usize) -> Result<(), NoMemory>
     requires state { IsState state.old }
     requires within { at < length state.old.tablets.items }
@@ -61,7 +61,7 @@ fn go_on_at(state: &mut MasterState, at: usize) -> Result<(), NoMemory>
     }
 }
 
-/// The tablet at a place, which closes, freezes where nothing of it is staged. A step for each staged entry.
+/// The tablet at a place, which closes, freezes if nothing of it is staged. A step for each staged entry.
 pub(crate) fn freeze_at(state: &mut MasterState, at: usize)
     requires state { IsState state.old }
     requires within { at < length state.old.tablets.items }
@@ -81,7 +81,7 @@ pub(crate) fn freeze_at(state: &mut MasterState, at: usize)
     tablet.freeze();
 }
 
-// The target at a place, which has all, appends its closing entry where every backup holds its side segments. A step for
+// The target at a place, which has all, appends its closing entry if every backup holds its side segments. A step for
 // each of those and each backup, and the time to spell the entry.
 fn close_at(state: &mut MasterState, at: usize) -> Result<(), NoMemory>
     requires state { IsState state.old }

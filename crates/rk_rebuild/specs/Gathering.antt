@@ -1,4 +1,4 @@
--- What a gather in code stands for.
+-- What a gather in code represents.
 use Rattle.rk_world.specs.Gather.{Gather}
 use Rattle.rk_rebuild.specs.Logs.{IsGathered, members_of}
 use Rattle.rk_rebuild.specs.declared.gather.Gather.TheInside.{Inside}

@@ -19,7 +19,7 @@ is_by master log = log.master == master
 abbrev pub log_of : List ReadLog → ℕ → Option ReadLog
 log_of logs master = find (is_by master) logs
 
--- what was read of a member, where this was read of its master
+-- what was read of a member, given what was read of its master
 abbrev pub gathered_of : Option ReadLog → Member → Gathered
 gathered_of None member = unread member
 gathered_of (Some log) member = record { member = member; main = log.main; main_read = log.main_read; sides = log.sides }

@@ -1,4 +1,4 @@
-// The last end of each client, in the order of the logs that tell them.
+// The last end of each client, in the order of the logs that record them.
 ghost use Rattle.std.specs.Prelude.{◌≡◌, ◌++◌, List, [], map, IfOk, OnOk};
 ghost use Rattle.std.specs.List.{flat_map, list_any};
 ghost use Rattle.rk_types.specs.declared.call.Ended.{Ended as End_of};
@@ -14,7 +14,7 @@ use rk_entry::{Entry, Refused};
 use rk_types::{End, Ended, Held, Listed, NoMemory, Numbered};
 use std::alloc::Global;
 
-/// The ends that these entries tell, in their order. A step for each end.
+/// The ends that these entries record, in their order. A step for each end.
 pub(crate) fn told(alloc: Global, entries: &[&Entry]) -> Result<Listed<Ended>, NoMemory>
     ensures { IfOk result (λ ends. ends ≡ told_lem (lent entries.now)) }
 {
@@ -25,7 +25,7 @@ pub(crate) fn told(alloc: Global, entries: &[&Entry]) -> Result<Listed<Ended>, N
     Ok(Listed::from_vec(ends))
 }
 
-// Puts the ends that an entry tells behind those that are there.
+// Puts the ends that an entry records behind those that are there.
 fn tell(ends: &mut Vec<Ended>, entry: &Entry) -> Result<(), NoMemory>
     ensures { OnOk result (ends.new.items ≡ ends.old.items ++ told_by entry.now) }
 {
@@ -75,10 +75,10 @@ fn end_of_refusal(refused: &Refused) -> End
     }
 }
 
-/// The last end of each client, of the ends that each member tells: in the order of the members that tell them last,
-/// and within a member by place. Of several ends of that call the first one told counts. A search for each end that is
-/// told, and for each that no later call outruns a look at the ends that are found so far, of which there is one for each
-/// client.
+/// The last end of each client, of the ends that each member records: in the order of the members that record them
+/// last, and within a member by place. Of several ends of that call the first one recorded counts. A search for each
+/// end that is recorded, and for each that no later call outruns a look at the ends that are found so far, of which
+/// there is one for each client.
 pub(crate) fn merged_ends(alloc: Global, told: &[Listed<Ended>]) -> Result<Vec<Ended>, NoMemory>
     ensures { IfOk result (λ ends. ends.items ≡ ends_told told.now) }
 {
@@ -87,7 +87,7 @@ pub(crate) fn merged_ends(alloc: Global, told: &[Listed<Ended>]) -> Result<Vec<E
     first_ends(alloc, &last, ends.as_slice())
 }
 
-// How each client's last call ended, as the members tell it.
+// How each client's last call ended, as the members record it.
 fn last_ends(alloc: Global, told: &[Listed<Ended>]) -> Result<Numbered<Completion>, NoMemory>
     ensures { IfOk result (λ last. last ≡ completions_from [] (flat_map (λ ends. ends) told.now)) }
 {
@@ -146,7 +146,7 @@ fn ends_by_place(
     Ok(ends)
 }
 
-// The ends of one member that have their place there, where these have theirs at later ones.
+// The ends of one member that have their place there, given that these have theirs at later ones.
 fn placed(
     alloc: Global,
     last: &Numbered<Completion>,
@@ -166,7 +166,7 @@ fn placed(
     Ok(ends)
 }
 
-// Whether the place of an end is at this member, where these ends have theirs at later ones and these before it here.
+// Whether the place of an end is at this member, given that these ends have theirs at later ones and these before it here.
 fn is_placed(last: &Numbered<Completion>, later: &[Ended], here: &[Ended], end: &Ended) -> bool
     ensures { (all seen : List End_of) (members : List (List End_of))
         → last.now ≡ completions_from [] all → later.now ≡ merging.ends_by_place all members

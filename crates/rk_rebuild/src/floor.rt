@@ -7,7 +7,7 @@ use rk_entry::Entry;
 use rk_types::NoMemory;
 
 /// The least number that is above each version of these entries and not below each floor of them, and at least 1. A
-/// step for each entry. `NoMemory` comes where no number of 64 bits is above a version.
+/// step for each entry. `NoMemory` comes if no number of 64 bits is above a version.
 pub(crate) fn floor_of(entries: &[&Entry]) -> Result<u64, NoMemory>
     ensures { IfOk result (λ floor. floor ≡ floor_of_lem (lent entries.now)) }
 {

@@ -58,16 +58,16 @@ impl Gather {
         })
     }
 
-    /// What is read next; none where all is gathered. A look at each member, and a search for a side segment.
+    /// What is read next; none if all is gathered. A look at each member, and a search for a side segment.
     pub fn next(&self) -> Option<Reading>
         ensures { result ≡ gathers.next_reading self.now }
     {
         next_of(self.logs.as_slice(), self.readers.as_slice())
     }
 
-    /// Takes what was read of a segment of a master, none where it was never written. False where it is not the one that
-    /// is read next: then nothing changes. After `NoMemory` nothing has changed; it comes too for the main segment of number
-    /// 2^31. What [`Gather::next`] takes, and a step for each entry of the segment, or for each entry of the log where its
+    /// Takes what was read of a segment of a master, none if it was never written. False if it is not the segment that is
+    /// read next: then nothing changes. After `NoMemory` nothing has changed; it comes too for the main segment of number
+    /// 2^31. What [`Gather::next`] takes, and a step for each entry of the segment, or for each entry of the log if its
     /// main segments are passed by this.
     pub fn take(&mut self, master: u8, segment: u32, bytes: Option<&[u8]>) -> Result<bool, NoMemory>
         ensures awaited { IfOk result (λ taken. taken ≡ gathers.is_awaited (gathers.next_reading self.old) master segment) }
@@ -93,7 +93,7 @@ impl Gather {
     }
 
     /// What was gathered and counts, lent, member by member in the order of the lineage. It may come at any time, and is
-    /// of all logs once [`Gather::next`] tells none. A step for each entry that was read.
+    /// of all logs once [`Gather::next`] returns none. A step for each entry that was read.
     pub fn counted(&self) -> Result<Vec<&Entry>, NoMemory>
         ensures { IfOk result (λ entries. lent entries.items ≡ gathers.counted self.now) }
     {
@@ -107,11 +107,11 @@ impl Gather {
 
     /// What a rebuild makes of the rebuilding master's own entries that count, and of what was gathered: copies of the
     /// newest items that the own entries lack, a floor, and the last end of each client. It may come at any time, and is
-    /// of all logs once [`Gather::next`] tells none. `NoMemory` comes too where no number of 64 bits is above a version
+    /// of all logs once [`Gather::next`] returns none. `NoMemory` comes too if no number of 64 bits is above a version
     /// that counts.
     ///
     /// A search for each entry that was read and for each own one, a sort of the newest item of each key, and a step for
-    /// each end that is told; of the entries the copies alone are duplicated.
+    /// each end that is recorded; of the entries the copies alone are duplicated.
     pub fn merge(&self, own: &[&Entry]) -> Result<Merged, NoMemory>
         ensures { IfOk result (λ merged. merged ≡ merging.merge (lent own.now) (gathers.by_member self.now (lent own.now))) }
     {
@@ -173,7 +173,7 @@ fn counted_members<'a>(
     Ok(counted)
 }
 
-// Whether the segment of a master is the one that is read next.
+// Whether the segment of a master is read next.
 fn is_awaited(next: Option<Reading>, master: u8, segment: u32) -> bool
     ensures { result ≡ gathers.is_awaited next master segment }
 {

@@ -50,7 +50,7 @@ pub fn counted_entries<'a>(
     Ok(counted)
 }
 
-// Lends an entry too, where it counts.
+// Lends an entry too, if it counts.
 fn count<'a>(counted: &mut Vec<&'a Entry>, range: &Range, entry: &'a Entry) -> Result<(), NoMemory>
     ensures { OnOk result (lent counted.new.items ≡ lent counted.old.items ++ counting range.now (entry.now ∷ [])) }
 {
@@ -60,7 +60,7 @@ fn count<'a>(counted: &mut Vec<&'a Entry>, range: &Range, entry: &'a Entry) -> R
     Ok(())
 }
 
-// Lends the entries of side segments too, where they count.
+// Lends the entries of side segments too, if they count.
 fn count_sides<'a>(
     counted: &mut Vec<&'a Entry>,
     range: &Range,
@@ -118,7 +118,7 @@ fn named_by<'a>(range: &Range, entry: &'a Entry) -> &'a [u32]
     joined.segments.as_slice()
 }
 
-// Adds numbers, where they are not among those that there are.
+// Adds the numbers that are not among those that there are.
 fn add_all(seen: &mut BTreeSet<u32>, numbers: &mut Vec<u32>, more: &[u32]) -> Result<(), NoMemory>
     requires { IsSetOf seen.old numbers.old.items }
     ensures numbers { OnOk result (numbers.new.items ≡ fold with_number numbers.old.items more.now) }
@@ -130,7 +130,7 @@ fn add_all(seen: &mut BTreeSet<u32>, numbers: &mut Vec<u32>, more: &[u32]) -> Re
     Ok(())
 }
 
-// Adds a number, where it is not among those that there are.
+// Adds a number, if it is not among those that there are.
 fn add(seen: &mut BTreeSet<u32>, numbers: &mut Vec<u32>, number: u32) -> Result<(), NoMemory>
     requires { IsSetOf seen.old numbers.old.items }
     ensures numbers { OnOk result (numbers.new.items ≡ with_number numbers.old.items number) }

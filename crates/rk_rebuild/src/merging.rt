@@ -19,7 +19,7 @@ use rk_types::{Ended, Listed, Member, NoMemory, Range};
 use rk_world::Merged;
 use std::alloc::Global;
 
-/// What counts of members, lent, and the ends that each of them tells.
+/// What counts of members, lent, and the ends that each of them records.
 #[derive(Drop)]
 pub(crate) struct Counted<'a> {
     all: Vec<&'a Entry>,

@@ -21,8 +21,8 @@ use std::alloc::Global;
 const LAST_MAIN_SEGMENT: usize = 2_147_483_648;
 
 /// A segment of a master was read, or was never written. After `NoMemory` nothing has changed of what was read; it comes
-/// too where a master's main segments are as many as there can be. A step for each entry of the segment, and for each
-/// entry of the log where its main segments are passed by this.
+/// too if a master's main segments are as many as there can be. A step for each entry of the segment, and for each
+/// entry of the log if its main segments are passed by this.
 pub(crate) fn read(
     alloc: Global,
     range: &Range,
@@ -66,7 +66,7 @@ fn opened(alloc: Global, logs: &mut Vec<ReadLog>, master: u8) -> Result<usize, N
     Ok(place)
 }
 
-// The place of the log of a master, or past the last one where none is there. A look at each log.
+// The place of the log of a master, or past the last one if there is none. A look at each log.
 fn place_of(logs: &[ReadLog], master: u8) -> usize
     ensures { result ≡ position_or_len (is_by master) logs.now }
 {
@@ -78,7 +78,7 @@ fn place_of(logs: &[ReadLog], master: u8) -> usize
     logs.len()
 }
 
-// A side segment was read; one that was never written has no entries.
+// A side segment was read; if it was never written, it has no entries.
 fn read_side(
     alloc: Global,
     log: &mut ReadLog,
@@ -102,7 +102,7 @@ fn advance(readers: &mut Vec<Reader>, log: &ReadLog)
     }
 }
 
-// A reader is moved on, where it is one of the master.
+// A reader is moved on, if it is one of the master.
 fn advance_one(reader: &mut Reader, log: &ReadLog)
     ensures { reader.new ≡ advanced log.now reader.old }
 {

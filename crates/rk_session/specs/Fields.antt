@@ -1,4 +1,4 @@
--- What a session in code stands for.
+-- What a session in code represents.
 use Rattle.std.specs.Prelude.{◌≡◌, ◌<◌, ◌≤◌, vec_len, vec_capacity, Some, IfSome}
 use Rattle.rk_types.specs.declared.call.Call.{Call}
 use Rattle.rk_types.specs.declared.hashing.TheConstants.{LANES}

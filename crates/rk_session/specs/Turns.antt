@@ -1,11 +1,11 @@
--- What a turn leaves and says, where it may be that nothing is done.
+-- What a turn leaves and sends, also if nothing is done.
 use Rattle.std.specs.Prelude.{ℕ, ◌==◌, if◌then◌else◌, Option, Some, None}
 use Rattle.std.specs.Option.{option_map}
 use Rattle.rk_message.specs.declared.calls.Located.{Located}
 use Rattle.rk_message.specs.declared.message.Message.{Message}
 use Rattle.rk_world.specs.Client.{Session, ClientTurn, MOST_REQUESTS as most_requests}
 
--- the session after a turn; as it was where nothing is done
+-- the session after a turn; as it was if nothing is done
 abbrev pub session_after : Session → Option ClientTurn → Session
 session_after session None = session
 session_after session (Some turned) = turned.session

@@ -63,7 +63,7 @@ impl CachedRanges {
         lane.forget(call);
     }
 
-    /// Puts a range that has the key of this call in place of those that it meets, or drops those where it has no owner.
+    /// Puts a range that has the key of this call in place of those that it meets, or drops those if it has no owner.
     /// A look at each range of the lane; takes no memory.
     pub(crate) fn put(&mut self, call: &Call, located: Located)
         requires its { has_call call.now located ≡ true }
@@ -77,7 +77,7 @@ impl CachedRanges {
     }
 }
 
-// Where the lane of a call stands among the lanes.
+// The index of a call's lane among the lanes.
 fn lane_index(call: &Call) -> usize
     ensures lane { result ≡ call_lane call.now }
     ensures within { result < LANES }

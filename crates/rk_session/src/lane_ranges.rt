@@ -58,7 +58,7 @@ impl LaneRanges {
         self.ranges.retain(|located| !has_call(call, located));
     }
 
-    /// Puts a range in place of those that it meets, or drops those where it has no owner. A look at each range; takes
+    /// Puts a range in place of those that it meets, or drops those if it has no owner. A look at each range; takes
     /// no memory.
     pub(crate) fn put(&mut self, located: Located)
         requires { length (apart_from located self.old.ranges) < self.old.capacity }

@@ -79,7 +79,7 @@ impl Session {
     }
 
     /// Asks the client's next call, and answers its seq. It reserves the room that an answer to the call takes. `Busy`
-    /// with the seq of the outstanding call comes exactly where there is one, and `NoMemory` also where the seq would
+    /// with the seq of the outstanding call comes exactly if there is one, and `NoMemory` also if the seq would
     /// not fit; after an error nothing has changed.
     pub fn ask(&mut self, table: u64, key: Key, op: Op) -> Result<u64, AskError>
         ensures seq { IfOk result (λ seq. seq ≡ self.old.last + 1) }
@@ -131,7 +131,7 @@ impl Session {
         Ok(Some(request))
     }
 
-    /// Takes a message, and tells what came of it. It takes no memory. A look at each cached range of the call's lane.
+    /// Takes a message, and returns what came of it. It takes no memory. A look at each cached range of the call's lane.
     pub fn accept(&mut self, message: Message) -> Taken
         ensures taken { result ≡ (session_accept self.old message.body).taken }
         ensures session { self.new ≡ (session_accept self.old message.body).session }
@@ -179,7 +179,7 @@ impl Session {
         self.receipts.as_slice()
     }
 
-    /// Who owns the key of the outstanding call, as far as the client knows; none where no call is outstanding. A look at
+    /// Who owns the key of the outstanding call, as far as the client knows; none if no call is outstanding. A look at
     /// each cached range of the call's lane.
     pub fn known_owner(&self) -> Option<u8>
         ensures { result ≡ known_owner_lem self.now }
@@ -277,7 +277,7 @@ fn receipt_of(call: Call, place: u64, stamp: u64, outcome: Outcome) -> Receipt
 }
 
 // The tablet that a request goes to, and its owner, by the cached range that has the key and by how many requests were
-// sent; none where the key is to be looked up.
+// sent; none if the key is to be looked up.
 fn address_of(requests: u8, located: Option<Located>) -> Option<(u32, u8)>
     ensures { result ≡ address_of_lem requests located }
 {

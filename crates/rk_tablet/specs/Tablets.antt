@@ -1,4 +1,4 @@
--- What the parts of a tablet in code stand for, and what a mutation sees of an item.
+-- What the parts of a tablet in code represent, and what a mutation sees of an item.
 use Rattle.std.specs.Prelude.{Option, Some, None, is_some, unwrap_or}
 use Rattle.rk_types.specs.declared.held.Held.{Held}
 use Rattle.rk_world.specs.Gather.{no_gather}

@@ -35,7 +35,7 @@ pub(crate) fn is_receiving(role: Role) -> bool
     matches!(role, Role::Receiving)
 }
 
-// What a read tells of an item.
+// What a read returns for an item.
 fn read_of(there: Option<&Held>) -> Result<Outcome, NoMemory>
     ensures { IfOk result (λ outcome. outcome ≡ requests.read_of (record_of (option_copied there.entry))) }
 {
@@ -67,7 +67,7 @@ impl Seen {
     }
 }
 
-// The version that a mutation sees, 0 where no record is there.
+// The version that a mutation sees, 0 if there is no record.
 fn version_seen(seen: Option<Seen>) -> u64
     ensures { (state : Option Item) → seen ≡ seen_of state → result ≡ requests.version_of (record_of state) }
 {
@@ -133,7 +133,7 @@ pub fn fresh_read(
     Ok(Choice::Reads(read_of(there)?))
 }
 
-/// The outcome that an end tells.
+/// The outcome that an end gives.
 pub fn outcome_of(end: End) -> Outcome
     ensures { result ≡ outcome_of_lem end }
 {

@@ -30,7 +30,7 @@ const NO_RANGE: Range = Range {
 };
 
 impl TabletLane {
-    /// The place from which the own log counts, where the tablet is rebuilt and has gathered all.
+    /// The place from which the own log counts, if the tablet is rebuilt and has gathered all.
     pub fn gathered_from(&self) -> Option<u64>
         ensures { result ≡ gathered_from_lem self.now.handover.role (gathers.next_reading (tablet_of self.now).gather) }
     {
@@ -43,7 +43,7 @@ impl TabletLane {
         Some(from)
     }
 
-    /// Takes the copy of a segment where the tablet awaits just that: whether it does. After `NoMemory` nothing has
+    /// Takes the copy of a segment if the tablet awaits just that: whether it does. After `NoMemory` nothing has
     /// changed. A look at each member of the lineage, and a step for each entry of the segment, or of the log that it ends.
     pub fn gather_segment(&mut self, copy: &CopySegment) -> Result<bool, NoMemory>
         ensures awaited { IfOk result (λ awaited. awaited ≡ is_awaiting (tablet_of self.old) copy.now) }
@@ -123,7 +123,7 @@ impl TabletLane {
     }
 }
 
-// The bytes of a copy; none where the segment was never written.
+// The bytes of a copy; none if the segment was never written.
 fn bytes_in(copy: &CopySegment) -> Option<&[u8]>
     ensures { option_map (λ bytes. bytes.now) result ≡ copy.now.bytes }
 {

@@ -48,9 +48,9 @@ impl TabletLane {
         (self.batches % 4) as u8
     }
 
-    /// Replays items by a worker, one after the other: one that is newer than what the records have of its key goes into
-    /// the records and to the worker's items, and any other nowhere. `NoMemory` too for 2^32 items, or where the side logs
-    /// have 2^62 bytes. A search of the records for each item, and the time to spell it.
+    /// Replays items by a worker, one after the other: an item newer than what the records have of its key goes into the
+    /// records and to the worker's items, and any other nowhere. `NoMemory` too for 2^32 items, or if the side logs have
+    /// 2^62 bytes. A search of the records for each item, and the time to spell it.
     pub fn replay(
         &mut self,
         records: &mut BucketTable,
@@ -72,7 +72,7 @@ impl TabletLane {
         Ok(())
     }
 
-    /// The token moves on behind one more batch. `NoMemory` where the batches are not counted any further.
+    /// The token moves on behind one more batch. `NoMemory` if the batches are not counted any further.
     pub fn pass(&mut self, next: Token) -> Result<(), NoMemory>
         ensures { OnOk result (tablet_of self.new ≡ with_token (tablet_of self.old) next) }
     {
@@ -99,7 +99,7 @@ impl TabletLane {
         self.sealed = sealed;
     }
 
-    /// A target that pulled has all: its closing entry stands at this place, or is not in the log yet.
+    /// A target that pulled has all: its closing entry is at this place, or is not in the log yet.
     pub fn end_pull(&mut self, entry: Option<u64>)
         requires { self.old.handover.role ≡ Role.Receiving }
         ensures handover { self.new.handover ≡ (record self.old.handover { role = Role.Joining entry }) }

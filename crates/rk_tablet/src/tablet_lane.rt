@@ -37,7 +37,7 @@ pub const MOST_VERSIONS: u64 = 1 << 60;
 pub struct TabletLane {
     pub handover: Handover,
     pub completions: Completions,
-    /// The master that the tablet was granted to be pulled from last; 0 where none was, or the tablet is owned since.
+    /// The master that the tablet was granted to be pulled from last; 0 if there was none, or the tablet is owned since.
     pub source: u8,
     pub wanted: Wanted,
     /// How far the pulls have come.
@@ -48,7 +48,7 @@ pub struct TabletLane {
     pub sides: SideLogs,
     /// The numbers of the side segments that were sealed.
     pub sealed: Listed<u32>,
-    /// What a rebuild gathers; none where nothing is to be gathered.
+    /// What a rebuild gathers; none if nothing is to be gathered.
     pub gather: Option<Gather>,
     /// The last end of each client, as a rebuild merged it.
     pub merged_ends: Listed<Ended>,
@@ -113,7 +113,7 @@ impl TabletLane {
         Ok(())
     }
 
-    /// The batch of wanted hashes to ask for: the outstanding one, or where there is none the oldest 16 or fewer of those
+    /// The batch of wanted hashes to ask for: the outstanding one, or if there is none, the oldest 16 or fewer of those
     /// that are wanted, which are outstanding then. After `NoMemory` they are so too.
     pub fn next_batch(&mut self, alloc: Global) -> Result<Listed<u64>, NoMemory>
         ensures batch { IfOk result (λ hashes. hashes ≡ (tablet_of self.new).pulling.hashes.outstanding) }
@@ -124,7 +124,7 @@ impl TabletLane {
         Ok(Listed::from_vec(Vec::from_slice(alloc, batch)?))
     }
 
-    /// The segment that a rebuild of the tablet reads next; none where nothing is gathered, or all is. A look at each
+    /// The segment that a rebuild of the tablet reads next; none if nothing is gathered, or all is. A look at each
     /// member whose log is gathered, and a search for a side segment.
     pub fn next_reading(&self) -> Option<Reading>
         ensures { result ≡ next_reading_lem (tablet_of self.now).gather }
@@ -135,7 +135,7 @@ impl TabletLane {
         }
     }
 
-    /// Gives the next version: the counter rises by one. `NoMemory` where no version is left, and then nothing has
+    /// Gives the next version: the counter rises by one. `NoMemory` if no version is left, and then nothing has
     /// changed.
     pub fn next_version(&mut self) -> Result<u64, NoMemory>
         ensures version { IfOk result (λ version. version ≡ (tablet_of self.old).handover.counter) }
@@ -150,7 +150,7 @@ impl TabletLane {
         Ok(version)
     }
 
-    /// Notes the end of a call, where the tablet is not absent and has the key. One binary search, and for the first call of
+    /// Notes the end of a call, if the tablet is not absent and has the key. One binary search, and for the first call of
     /// a client what an insertion takes.
     pub fn note(&mut self, call: &Call, end: Ended) -> Result<(), NoMemory>
         ensures { OnOk result (tablet_of self.new ≡ noting call.now end (tablet_of self.old)) }

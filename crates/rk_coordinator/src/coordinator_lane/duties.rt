@@ -12,9 +12,9 @@ use rk_tablet_map::{Phase, Row};
 use rk_types::{Listed, NoMemory, Node};
 
 impl CoordinatorLane {
-    /// What the coordinator sends on its turn, by rising tablet: a Prepare or a Close for a tablet that opens, a Grant for
-    /// one that moves, a Rebuild for one that is rebuilt. A step for each row, and a search for one that moves;
-    /// lineages, and what sources told of clients, are copied.
+    /// What the coordinator sends on its turn, by rising tablet: a Prepare or a Close for a tablet that opens, a Grant for a
+    /// tablet that moves, a Rebuild for a tablet that is rebuilt. A step for each row, and a search for each tablet that
+    /// moves; lineages, and what sources reported of clients, are copied.
     pub fn turn(&self) -> Result<Vec<Message>, NoMemory>
         ensures { IfOk result (λ sends. sends.items ≡ coordinator_turn self.now) }
     {
@@ -99,7 +99,7 @@ fn row_duty(lane: &CoordinatorLane, row: &Row) -> Result<Option<Message>, NoMemo
     })
 }
 
-// The Grant of a tenure: it hands on what the source told, and where that is not known a floor of 1 and no ends.
+// The Grant of a tenure: it hands on what the source reported, and if that is not known, a floor of 1 and no ends.
 fn grant(lane: &CoordinatorLane, tenure: Tenure, source: u8) -> Result<Grant, NoMemory>
     ensures { IfOk result (λ grant. grant ≡ grant_of tenure source (told_of lane.now tenure.tablet)) }
 {

@@ -16,7 +16,7 @@ use rk_types::{NoMemory, Node};
 impl CoordinatorLane {
     /// Takes a message: a client's Lookup, or what a master that was not noticed dead reports of a row at its term. Each
     /// other message is ignored. After `NoMemory` nothing has changed. A search for the row, and a step for each master
-    /// that was noticed dead; what a Transfer tells of clients is copied.
+    /// that was noticed dead; what a Transfer reports of clients is copied.
     pub fn handle(&mut self, message: &Message) -> Result<Handled, NoMemory>
         ensures ok { IfOk result (λ handled.
             IsHandled (step.coordinator_step self.old message.now) message.now.body self.new handled) }
@@ -47,7 +47,7 @@ impl CoordinatorLane {
         }
     }
 
-    // The answer to a client's Lookup, where a row has the hash.
+    // The answer to a client's Lookup, if a row has the hash.
     fn answers_to(&self, client: u32, lookup: &Lookup) -> Result<Vec<Message>, NoMemory>
         ensures { IfOk result (λ sends. sends.items
             ≡ (step.lookup_taken self.now (Node.Client client) lookup.now).sends) }
@@ -93,7 +93,7 @@ impl CoordinatorLane {
         Some(row)
     }
 
-    // The target of a tablet that opens is ready: its place is noted, where that is not known yet.
+    // The target of a tablet that opens is ready: its place is noted, if that is not known yet.
     fn ready_in(&mut self, sender: u8, ready: &Ready)
         ensures { step.report self.old sender (Body.Ready ready.now) ≡ step.unanswered self.new }
     {
@@ -122,8 +122,8 @@ impl CoordinatorLane {
         self.map.change(tablet, term, phase);
     }
 
-    // The source of a tablet that opens has frozen it: once the target's place is known it moves, and what the source told
-    // is noted for the Grant.
+    // The source of a tablet that opens has frozen it: once the target's place is known it moves, and what the source
+    // reported is noted for the Grant.
     fn transfer_in(&mut self, sender: u8, transfer: &Transfer) -> Result<(), NoMemory>
         ensures ok { OnOk result (step.report self.old sender (Body.Transfer transfer.now) ≡ step.unanswered self.new) }
         ensures err { OnErr result (self.new ≡ self.old) }
@@ -157,7 +157,7 @@ impl CoordinatorLane {
     }
 
     // The target of a tablet that moves has all of it: it owns the tablet, and its source is told to let go. An owner is
-    // told again.
+    // sent its Own again.
     fn joined_in(&mut self, sender: u8, tenure: &Tenure) -> Result<Vec<Message>, NoMemory>
         ensures ok { IfOk result (λ sends. step.report self.old sender (Body.Joined tenure.now)
             ≡ step.answered self.new sends.items) }
@@ -192,7 +192,7 @@ impl CoordinatorLane {
         }
     }
 
-    // A tablet is rebuilt: its master owns it, and what it told is taken. An owner is told again.
+    // A tablet is rebuilt: its master owns it, and what it reported is taken. An owner is sent its Own again.
     fn rebuilt_in(&mut self, sender: u8, rebuilt: &Rebuilt) -> Result<Handled, NoMemory>
         ensures ok { IfOk result
             (IsHandled (step.report self.old sender (Body.Rebuilt rebuilt.now)) (Body.Rebuilt rebuilt.now) self.new) }
@@ -236,7 +236,7 @@ fn sending(sends: Vec<Message>) -> Handled
     }
 }
 
-// A client is told of the row that has its hash.
+// A client is answered with the row that has its hash.
 fn located(client: u32, row: &Row) -> Message
     ensures { result ∷ [] ≡ step.located (Node.Client client) (Some row.now) }
 {

@@ -24,9 +24,9 @@ pub(crate) struct Change {
 }
 
 impl CoordinatorLane {
-    /// Notices that a master has crashed: each tablet that it owns, gives, takes or rebuilds is to be rebuilt by one that is
-    /// left, at the next term. Whether it was noticed before is not tested. After `NoMemory` nothing has changed. A step for
-    /// each row and, for each row that changes, another one for each row; lineages are copied.
+    /// Notices that a master has crashed: each tablet that it owns, gives, takes or rebuilds is to be rebuilt by a master
+    /// that is left, at the next term. Whether it was noticed before is not tested. After `NoMemory` nothing has changed. A
+    /// step for each row and, for each row that changes, another one for each row; lineages are copied.
     pub fn notice(&mut self, master: u8) -> Result<(), NoMemory>
         requires { MayRise self.old }
         ensures ok { OnOk result (self.new ≡ notice_one self.old master) }
@@ -61,7 +61,7 @@ fn changes_of(lane: &CoordinatorLane, dead: u8) -> Result<Vec<Change>, NoMemory>
     Ok(changes)
 }
 
-// How a row changes once one more master is noticed dead, where it does.
+// How a row changes once one more master is noticed dead, if it does.
 fn change_of(lane: &CoordinatorLane, dead: u8, row: &Row) -> Result<Option<Change>, NoMemory>
     requires { row.now.term < 2 ^ 63 }
     ensures { IfOk result (λ change. change ≡ change_of_lem row.now (phase_noticed_lem (marked lane.now dead) dead row.now.phase)) }
@@ -76,7 +76,7 @@ fn change_of(lane: &CoordinatorLane, dead: u8, row: &Row) -> Result<Option<Chang
     }))
 }
 
-// The phase of a row once one more master is noticed dead, where that changes it.
+// The phase of a row once one more master is noticed dead, if that changes it.
 fn phase_noticed(lane: &CoordinatorLane, dead: u8, phase: &Phase) -> Result<Option<Phase>, NoMemory>
     ensures { IfOk result (λ changed. changed ≡ phase_noticed_lem (marked lane.now dead) dead phase.now) }
 {
@@ -87,7 +87,7 @@ fn phase_noticed(lane: &CoordinatorLane, dead: u8, phase: &Phase) -> Result<Opti
     Ok(Some(Phase::Rebuilding { lineage, to }))
 }
 
-// The master that is to rebuild a tablet once one more master is noticed dead, where that changes its phase.
+// The master that is to rebuild a tablet once one more master is noticed dead, if that changes its phase.
 fn rebuilder(lane: &CoordinatorLane, dead: u8, phase: &Phase) -> Option<u8>
     ensures { phase_noticed_lem (marked lane.now dead) dead phase.now ≡ option_map (Phase.Rebuilding (lineage_of_lem phase.now)) result }
 {
@@ -155,7 +155,7 @@ fn first_left(lane: &CoordinatorLane, dead: u8, lineage: &[Member]) -> Option<u8
         .find(|master| !is_marked(lane, dead, *master))
 }
 
-// The lowest master that was not noticed dead once one more is, and 0 where none is left.
+// The lowest master that was not noticed dead once one more is, and 0 if none is left.
 fn lowest_left(lane: &CoordinatorLane, dead: u8) -> u8
     ensures { result ≡ lowest_left_lem (marked lane.now dead) }
 {
