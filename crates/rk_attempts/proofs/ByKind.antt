@@ -1,4 +1,4 @@
--- The kind of a message tells whether it has pulled records.
+-- The kind of a message decides whether it has pulled records.
 use Rattle.std.proofs.Common.{◌≡◌, Bool, refl}
 use Rattle.rk_message.specs.declared.kind.Kind.{Kind}
 use Rattle.rk_message.specs.declared.kind.Kind.TheVariants as kinds

@@ -23,7 +23,7 @@ pub record Attempted : Type 0 where
   pub session : Session
   pub answer : Result Attempt Short
 
--- what became of a call, where what the client took says so
+-- what became of a call, if what the client took says so
 abbrev pub heard : Option Taken → Option Attempt
 heard (Some takes.Done) = Some attempts.Answered
 heard (Some (takes.Moved tablet)) = Some (attempts.Moved tablet)
@@ -41,7 +41,7 @@ took w session number =
     let visited = visited_or w session (accept w number session) in
     record visited { world = (came (started visited.world) (events.Forget number) (Gave None)).world }
 
--- an attempt ends where what became of the call is known, and else goes on
+-- an attempt ends if what became of the call is known, and else goes on
 abbrev pub ends_or : Visited → Attempted → Option Attempt → Attempted
 ends_or visited later (Some attempt) = record { world = visited.world; session = visited.session; answer = Ok attempt }
 ends_or visited later None = later
@@ -76,7 +76,7 @@ abbrev pub attempt_by : World → Session → Called → Result Visited StepErro
 attempt_by w session called (Ok visited) = going_on visited.session (sent_on visited.world visited.seen called)
 attempt_by w session called (Err error) = record { world = w; session = session; answer = refused_by error }
 
--- a client's attempt for its outstanding call: it asks, the message that this sent is delivered and forgotten, and it takes the messages for
--- it, oldest first, up to the first that says what became of the call
+-- a client's attempt for its outstanding call: it asks, the message that this sent is delivered and forgotten, and it takes the messages
+-- for it, oldest first, up to the first that says what became of the call
 abbrev pub attempt_on : World → Session → Called → Attempted
 attempt_on w session called = attempt_by w session called (ask w session)

@@ -20,7 +20,7 @@ abbrev pub StopsAt : Short → Option ℕ → Type 0
 StopsAt shorts.NoMemory worn = ⊥
 StopsAt (shorts.Worn number) worn = worn ≡ Some number
 
--- work came to its end, or stopped where a number was too great
+-- work came to its end, or stopped because a number was too great
 abbrev pub EndsAt : {T : Type 0} → Result T Short → Option ℕ → Type 0
 EndsAt (Ok result) worn = worn ≡ None
 EndsAt (Err short) worn = StopsAt short worn
@@ -37,7 +37,7 @@ pub record IsHanded {R : Type 0} (segments : R → Option Segments) (old new : L
   pub may : MayCome called
   pub comes : Comes segments old new (λ w. handed (started w) number called) (has_come worn)
 
--- messages were delivered and forgotten, oldest first; where the lane was not found worn, none is left that a turn delivers
+-- messages were delivered and forgotten, oldest first; if the lane was not found worn, none is left that a turn delivers
 pub record IsHandedOut {R : Type 0} (segments : R → Option Segments) (old new : LaneState R) (worn : Option ℕ) : Type 0 where
   pub calls : List Called
   pub may : All MayCome calls

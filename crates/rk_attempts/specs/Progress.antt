@@ -1,4 +1,4 @@
--- Work in one lane: events one after the other, up to one that finds the lane worn.
+-- Work in one lane: events one after the other, up to an event that finds the lane worn.
 use Rattle.std.specs.Prelude.{ℕ, Option, None, Some, Result, Ok, Err}
 use Rattle.rk_world.specs.Backup.{Called, Gave}
 use Rattle.rk_world.specs.Step.{Stepped, step}
@@ -17,12 +17,12 @@ pub record Progress : Type 0 where
 abbrev pub started : World → Progress
 started w = record { world = w; worn = None }
 
--- the number that is too great, where a refusal says so
+-- the number that is too great, if a refusal says so
 abbrev pub worn_at : StepError → Option ℕ
 worn_at (errors.Worn number) = Some number
 worn_at error = None
 
--- work after an event: a refusal changes nothing, and ends it only where the lane is worn
+-- work after an event: a refusal changes nothing, and ends it only if the lane is worn
 abbrev pub after_step : World → Result Stepped StepError → Progress
 after_step w (Ok stepped) = started stepped.world
 after_step w (Err error) = record { world = w; worn = worn_at error }

@@ -1,4 +1,4 @@
--- The last code of a migration, and of a table, where no earlier one applies.
+-- The last code of a migration, and of a table, if no earlier code applies.
 use Rattle.std.proofs.Common.{ℕ, Bool, false, ◌||◌, not, [], ◌∷◌, length, nat_le, nat_lt, Option}
 use Rattle.rk_outside.specs.Segments.{Segments}
 use Rattle.rk_cluster.specs.Codes.{MOST_TABLES, MOST_TABLETS, code_where, first_code, migrate_code, table_code}

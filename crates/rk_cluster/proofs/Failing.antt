@@ -1,4 +1,4 @@
--- What a lane's answer to an event tells of how often its replicas failed.
+-- What a lane's answer to an event shows of how often its replicas failed.
 use Rattle.rk_cluster.proofs.Words.{arith, ◌≡◌, ℕ, true, false, List, [], ◌∷◌, ◌+◌, slice_get, slice_set, Option, None, Some, IfSome}
 use Rattle.rk_cluster.proofs.Words.{Result, Ok, Err, IfErr, IfOk, OnErr, refl, sym, ap, subst, ◌∙◌, ⊎_elim, eq-eqb, Node, Segments, Traffic}
 use Rattle.rk_cluster.proofs.Words.{receiver_of, Message, Visited, Session, Called, comes_anyway, refusal, Stepped, stepped_by}

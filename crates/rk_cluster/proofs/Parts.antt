@@ -1,4 +1,4 @@
--- What occurs by each thing of a list, one after the other, where the first ones have come.
+-- What occurs by each thing of a list, one after the other, once the first of them have come.
 use Rattle.rk_cluster.proofs.Words.{◌≡◌, ◌≤◌, ◌<◌, ◌+◌, ◌++◌, ℕ, List, [], ◌∷◌, drop, length, map, map-append, slice_index_or, take}
 use Rattle.rk_cluster.proofs.Words.{take_all, Option, None, Some, sym, ap, subst, ◌∙◌, append_assoc, Segments, Occurrence, Acts, ActsOne}
 use Rattle.rk_cluster.proofs.Words.{AreCutShort, Carries, ClusterState, EndsWorn, IsShortOf}

@@ -1,4 +1,4 @@
--- What lanes in code tell of the clusters that they stand for.
+-- What lanes in code show of the clusters that they stand for.
 use Rattle.rk_cluster.proofs.Words.{◌≡◌, ◌≤◌, ◌<◌, ℕ, zero, suc, ◌+◌, Bool, true, false, ◌&&◌, ◌||◌, cond, List, [], ◌∷◌, ◌++◌, filter}
 use Rattle.rk_cluster.proofs.Words.{length, slice_get, slice_index_or, take, Option, None, Some, refl, sym, ap, ◌∙◌, arith, list_all}
 use Rattle.rk_cluster.proofs.Words.{range_with_len, take_all, list_all_at, list_all_more, Segments, lane_at, World, new_world, LaneState}

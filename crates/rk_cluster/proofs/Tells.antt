@@ -1,4 +1,4 @@
--- Where all replicas of a lane tell what they store, they still do after whatever comes to it.
+-- If all replicas of a lane report what they store, they still do after whatever comes to it.
 use Rattle.rk_cluster.proofs.Words.{arith, ◌≡◌, Result, Ok, subst, Called, Visited, refusal, AllTell, world_visited, Stepped, step, World}
 use Rattle.rk_cluster.proofs.Words.{StepError, Event}
 use Rattle.rk_inv_tablets.proofs.steady.Lanes.{tell_event}

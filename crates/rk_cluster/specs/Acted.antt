@@ -37,12 +37,12 @@ said_of call receipts (takes.Moved tablet) = says.Moved call.client call.seq tab
 said_of call receipts (takes.NotYet key) = says.NotYet call.client call.seq key ∷ []
 said_of call receipts taken = []
 
--- what a client says, where it had a call and took something
+-- what a client says, if it had a call and took something
 abbrev pub said_by : Option Call → List Receipt → Option Taken → List Said
 said_by (Some call) receipts (Some taken) = said_of call receipts taken
 said_by call receipts taken = []
 
--- what is worn, where that is why something is refused
+-- what is worn, if that is why something is refused
 abbrev pub worn_by : StepError → Option ℕ
 worn_by (errors.Worn number) = Some number
 worn_by error = None
@@ -52,7 +52,7 @@ abbrev pub worn_in : {T : Type 0} → Result T StepError → Option ℕ
 worn_in (Ok answer) = None
 worn_in (Err error) = worn_by error
 
--- whether an event showed that a message was lost; one that is refused showed nothing
+-- whether an event showed that a message was lost; an event that was refused showed nothing
 abbrev pub lost_in : Result Stepped StepError → Bool
 lost_in (Ok stepped) = stepped.seen.lost
 lost_in (Err error) = false
@@ -76,7 +76,7 @@ abbrev pub acted_by : {T : Type 0} → Occurrence → Cluster → List Said → 
 acted_by occurrence cluster said answer =
     record { cluster = cluster; came = came_in occurrence answer; said = said; worn = worn_in answer }
 
--- one that no lane may refuse left this cluster
+-- an occurrence that no lane may refuse left this cluster
 abbrev pub acted_well : Occurrence → Cluster → Acted
 acted_well occurrence cluster = record { cluster = cluster; came = occurrence ∷ []; said = []; worn = None }
 

@@ -27,7 +27,7 @@ pub record IsNextIn {R : Type 0} (number : ℕ) (lane : LaneState R) : Type 0 wh
 abbrev pub IsNextAt : {R : Type 0} → List (LaneState R) → ℕ → ℕ → Type 0
 IsNextAt {R} lanes place number = (lane : LaneState R) → slice_get lanes place ≡ Some lane → IsNextIn number lane
 
--- the last request of a client was sent again in a lane, up to where a number is worn, if one is
+-- the last request of a client was sent again in a lane, up to the step at which a number is worn, if one is
 abbrev pub IsSentAgain : {R : Type 0} → (R → Option Segments) → List (LaneState R) → List (LaneState R) → ℕ → ℕ → ℕ → Option ℕ → Type 0
 IsSentAgain segments old new lane client number broken =
     (sessions : NumberMap Session) → Acts segments (state_of old sessions) (state_of new sessions) (again_at lane client number) [] broken

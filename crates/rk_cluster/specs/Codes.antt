@@ -20,7 +20,7 @@ MOST_TABLETS = 16
 abbrev pub MOST_CALLS : ℕ
 MOST_CALLS = 200000
 
--- a code, where a test holds
+-- a code, if a test holds
 abbrev pub code_where : Bool → Code → Option Code
 code_where holds code = if holds then Some code else None
 

@@ -37,7 +37,7 @@ IsForBackup {R} lanes place (events.Deliver number) =
     → IfSome lane.running (λ running. is_backup (receiver_of number running.wire) ≡ true)
 IsForBackup lanes place event = ⊥
 
--- whether the message of a number is for a backup, and lost where it is delivered, since the backup's replica failed
+-- whether the message of a number is for a backup, and lost when it is delivered, since the backup's replica failed
 abbrev pub is_lost_at_backup : Cluster → ℕ → ℕ → Fate → Bool
 is_lost_at_backup cluster lane number fate =
     is_backup (receiver_of number (lane_at cluster lane).wire)
@@ -53,8 +53,8 @@ abbrev pub DeliversShort : {R : Type 0} → (R → Option Segments) → (R → �
 DeliversShort segments faults old new lane number =
     BySomeFate faults old.lanes new.lanes (λ fate. CutShortBy segments old new (λ cluster. deliver_in_makes cluster lane number fate))
 
--- by this fate of the call of a replica the message of a number was delivered in a lane, and this came of it: what was said, and whether the
--- message was lost at a backup
+-- by this fate of the call of a replica the message of a number was delivered in a lane, and this came of it: what was said, and whether
+-- the message was lost at a backup
 pub record IsDelivery {R : Type 0} (segments : R → Option Segments) (old new : ClusterState R) (lane number : ℕ) (delivered : Delivered) (fate : Fate) : Type 0 where
   pub acts : ActsBy segments old new (λ cluster. deliver_in_makes cluster lane number fate) (option_to_list delivered.said) None
   pub failed : (cluster : Cluster) → IsOf segments old cluster → is_lost_at_backup cluster lane number fate ≡ delivered.failed

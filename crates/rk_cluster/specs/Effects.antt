@@ -16,20 +16,20 @@ pub record RunsTo (before : Cluster) (occurred : List Occurrence) (after : Clust
   pub run : IsRun before occurred
   pub is : after ≡ cluster_run before occurred
 
--- this came of some events in a cluster: the one in code stands for the one after them, to which those that came lead, this was said, and
--- this is worn
+-- this came of some events in a cluster: the cluster in code stands for the cluster after them, to which those that came lead, this was
+-- said, and this is worn
 pub record IsActedAs {R : Type 0} (segments : R → Option Segments) (before : Cluster) (state : ClusterState R) (told : List Said) (broken : Option ℕ) (it : Acted) : Type 0 where
   pub cluster : IsOf segments state it.cluster
   pub leads : RunsTo before it.came it.cluster
   pub said : it.said ≡ told
   pub worn : it.worn ≡ broken
 
--- of each cluster that the old one in code stood for, an occurrence makes one that the new one stands for
+-- of each cluster that the old cluster in code stood for, an occurrence makes a cluster that the new one stands for
 abbrev pub ActsOne : {R : Type 0} → (R → Option Segments) → ClusterState R → ClusterState R → Occurrence → List Said → Option ℕ → Type 0
 ActsOne segments old new occurrence told broken =
     (cluster : Cluster) → IsOf segments old cluster → IsActedAs segments cluster new told broken (acted cluster occurrence)
 
--- so does one that is known by the cluster
+-- so does an occurrence that the cluster determines
 abbrev pub ActsAs : {R : Type 0} → (R → Option Segments) → ClusterState R → ClusterState R → (Cluster → Occurrence) → List Said → Option ℕ → Type 0
 ActsAs segments old new occurrence_of told broken =
     (cluster : Cluster) → IsOf segments old cluster → IsActedAs segments cluster new told broken (acted cluster (occurrence_of cluster))
@@ -59,8 +59,8 @@ pub record IsCarriedOut {R : Type 0} (segments : R → Option Segments) (old new
   pub code : HasCode segments old code_of None
   pub acts : ActsBy segments old new makes told None
 
--- some occurrences were cut short by want of memory: a first part of them came in a cluster, and led to one that a cluster in code stood
--- for; in that one memory was wanting
+-- some occurrences were cut short by want of memory: a first part of them came in a cluster, and led to a cluster that a cluster in code
+-- stood for; in that one memory was wanting
 pub record IsCutShort {R : Type 0} (segments : R → Option Segments) (before : Cluster) (state : ClusterState R) (all : List Occurrence) : Type 0 where
   pub done : List Occurrence
   pub left : List Occurrence

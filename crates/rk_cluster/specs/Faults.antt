@@ -38,7 +38,7 @@ lane_counts faults (Some lane) place = slice_get (fault_counts faults lane.backu
 abbrev pub counts_in : {R : Type 0} → (R → ℕ) → List (LaneState R) → Counts
 counts_in faults lanes lane place = lane_counts faults (slice_get lanes lane) place
 
--- by their counts, the replicas of some lanes failed meanwhile as often as these tell, at least
+-- by their counts, the replicas of some lanes failed meanwhile at least as often as these fates say
 abbrev pub LanesGoOn : {R : Type 0} → (R → ℕ) → List Fate → List (LaneState R) → List (LaneState R) → Type 0
 LanesGoOn faults fates old new = GoOn fates (counts_in faults old) (counts_in faults new)
 
@@ -57,7 +57,7 @@ pub record RoseOnce (before now : Counts) : Type 0 where
 abbrev pub SomeLaneFailed : {R : Type 0} → (R → ℕ) → List (LaneState R) → List (LaneState R) → Type 0
 SomeLaneFailed faults old new = RoseOnce (counts_in faults old) (counts_in faults new)
 
--- this holds by the fate of the call of a replica, if one was called; where that failed its count of faults rose
+-- this holds by the fate of the call of a replica, if one was called; if that failed, the replica's count of faults rose
 pub record BySomeFate {R : Type 0} (faults : R → ℕ) (old new : List (LaneState R)) (Holds : Fate → Type 0) : Type 0 where
   pub fate : Fate
   pub counts : LanesGoOn faults (fate ∷ []) old new

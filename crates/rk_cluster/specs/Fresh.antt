@@ -16,7 +16,7 @@ pub record IsNewLane {R : Type 0} (masters backups number : ℕ) (lane : LaneSta
   pub runs : lane.running ≡ Some running
   pub world : world_with lane running [] ≡ record (new_world number masters backups) { backups = [] }
 
--- replicas tell that nothing was written
+-- replicas report that nothing was written
 abbrev pub AreEmpty : {R : Type 0} → (R → Option Segments) → List R → Type 0
 AreEmpty segments replicas = All (λ replica. segments replica ≡ Some no_segments) replicas
 

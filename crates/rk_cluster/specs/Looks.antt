@@ -1,5 +1,5 @@
 -- What a call of a user looks at. Each tablet has a row in every lane, and a master that has crashed has crashed in all of them, so
--- lane 0 tells of all.
+-- lane 0 speaks for all.
 use Rattle.std.specs.Prelude.{ℕ, ◌+◌, ◌==◌, ◌&&◌, Bool, false, not, nat_le, if◌then◌else◌, List, [], ◌∷◌, filter, length, map, sum, Option, Some, None, is_some}
 use Rattle.std.specs.List.{list_all, list_any, range_with_len}
 use Rattle.rk_types.specs.NumberMap.{get}
@@ -105,7 +105,7 @@ lanes_without cluster tablet master = filter (λ lane. not (is_owner master (own
 abbrev pub has_dead_owner : Cluster → List ℕ → ℕ → Bool
 has_dead_owner cluster lanes tablet = list_any (λ lane. is_dead_owner (lane_at cluster lane) (owner_at cluster tablet lane)) lanes
 
--- the hash that a range begins at, and the one that it ends at, where a row has one
+-- whether a hash is in the range of a row, other than its first hash; never if there is no row
 abbrev pub has_inside : Option Row → ℕ → Bool
 has_inside None at = false
 has_inside (Some row) at = not (nat_le at row.range.first) && nat_le at row.range.last

@@ -1,5 +1,5 @@
 -- What each call of a user makes: a list of events in lanes and of what sessions do there, one after the other. `fate` is what becomes of
--- the call of a replica, where a message for a backup is delivered.
+-- the call of a replica, if a message for a backup is delivered.
 use Rattle.std.specs.Prelude.{ℕ, ◌+◌, ◌==◌, Bool, true, if◌then◌else◌, List, [], ◌∷◌, ◌++◌, length, map, Option, Some, None}
 use Rattle.std.specs.List.{flat_map}
 use Rattle.rk_types.specs.NumberMap.{get}
@@ -48,7 +48,7 @@ client_makes cluster client = in_lanes (all_lanes cluster) (events.AddClient cli
 abbrev pub call_makes : ℕ → ℕ → List ℕ → Op → List Occurrence
 call_makes client table key op = Calls client table key op ∷ []
 
--- a tablet begins to move to a master, in each lane where another one owns it
+-- a tablet begins to move to a master, in each lane where another master owns it
 abbrev pub migrate_makes : Cluster → ℕ → ℕ → List Occurrence
 migrate_makes cluster tablet to = in_lanes (lanes_without cluster tablet to) (events.Migrate tablet to)
 
@@ -103,12 +103,12 @@ forget_by lane (Some number) = in_lane lane (events.Forget number) ∷ []
 abbrev pub forget_makes : Cluster → ℕ → ℕ → List Occurrence
 forget_makes cluster lane place = forget_by lane (number_at place (lane_at cluster lane).wire)
 
--- a client asks in a lane, where this is its outstanding call and belongs there
+-- a client asks in a lane, if this is its outstanding call and belongs there
 abbrev pub asks_by : ℕ → ℕ → Option Call → List Occurrence
 asks_by lane client None = []
 asks_by lane client (Some call) = if call_lane call == lane then Asks lane client ∷ [] else []
 
--- a client asks in a lane, where it has an outstanding call there
+-- a client asks in a lane, if it has an outstanding call there
 abbrev pub asks_in : ℕ → ℕ → Session → List Occurrence
 asks_in lane client session = asks_by lane client session.outstanding
 

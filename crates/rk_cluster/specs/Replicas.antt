@@ -1,5 +1,5 @@
--- How the replicas of a cluster answer. What a call of a replica comes to is computed from what its backup stores, but for the calls that fail:
--- a fate is all that is chosen from outside.
+-- How the replicas of a cluster answer. What a call of a replica comes to is computed from what its backup stores, but for the calls that
+-- fail: a fate is all that is chosen from outside.
 use Rattle.std.specs.Prelude.{ℕ, ◌+◌, ◌==◌, ◌&&◌, Bool, false, if◌then◌else◌, Option, None, Some, ⊤}
 use Rattle.rk_types.specs.declared.node.Node.{Node}
 use Rattle.rk_types.specs.declared.node.Node.TheVariants as nodes
@@ -9,7 +9,7 @@ use Rattle.rk_world.specs.Step.{told_by_replica}
 use Rattle.rk_world.specs.declared.event.Event.{Event}
 use Rattle.rk_lane.specs.Events.{receiver_by}
 
--- what becomes of the call of a replica, where one is called
+-- what becomes of the call of a replica, if one is called
 pub data Fate : Type 0 where
   -- it goes well
   Kept : Fate

@@ -14,8 +14,8 @@ pub record ClusterState (R : Type 0) : Type 0 where
   pub lanes : List (LaneState R)
   pub sessions : NumberMap Session
 
--- a lane that is not spent, and whose replicas all tell what they store, stands for a world: what the world's backups store is what their
--- replicas tell
+-- a lane that is not spent, and whose replicas all report what they store, stands for a world: what the world's backups store is what
+-- their replicas report
 pub record IsWorld {R : Type 0} (segments : R → Option Segments) (lane : LaneState R) (w : World) : Type 0 where
   pub running : Running
   pub runs : lane.running ≡ Some running
@@ -30,8 +30,8 @@ AreWorlds segments [] [] = ⊤
 AreWorlds segments (lane ∷ lanes) (w ∷ worlds) = IsWorld segments lane w × AreWorlds segments lanes worlds
 AreWorlds segments lanes worlds = ⊥
 
--- a cluster in code stands for one of the definitions; one with a lane that is spent stands for none, and neither does one with a replica
--- that does not tell what it stores
+-- a cluster in code stands for a cluster of the definitions; if a lane of it is spent, or a replica does not report what it stores, it
+-- stands for none
 pub record IsOf {R : Type 0} (segments : R → Option Segments) (state : ClusterState R) (cluster : Cluster) : Type 0 where
   pub lanes : AreWorlds segments state.lanes cluster.lanes
   pub sessions : cluster.sessions ≡ state.sessions

@@ -28,7 +28,7 @@ use Rattle.rk_cluster.specs.declared.steps.Deed.{Deed}
 abbrev pub state_of : {R : Type 0} → List (LaneState R) → NumberMap Session → ClusterState R
 state_of lanes sessions = record { lanes = lanes; sessions = sessions }
 
--- why a call ends where a lane answers so: it is worn, or memory is wanting; each other refusal is passed over
+-- why a call ends when a lane answers so: it is worn, or memory is wanting; each other refusal is passed over
 abbrev pub failure_of : Result Seen StepError → Option ClusterError
 failure_of (Ok seen) = None
 failure_of (Err causes.NoMemory) = Some errors.NoMemory
@@ -49,14 +49,14 @@ AreLanes masters place (lane ∷ lanes) = (lane.number ≡ place) × (lane.maste
 abbrev pub MayComeAt : {R : Type 0} → List (LaneState R) → ℕ → Event → Type 0
 MayComeAt {R} lanes place event = (lane : LaneState R) → slice_get lanes place ≡ Some lane → MayComeTo lane event
 
--- an event came to a lane, by the fate of the call of a replica, if one was called; where that failed its count of faults rose
+-- an event came to a lane, by the fate of the call of a replica, if one was called; if that failed, the replica's count of faults rose
 pub record IsHappening {R : Type 0} (segments : R → Option Segments) (faults : R → ℕ) (old new : List (LaneState R)) (lane : ℕ) (event : Event) (broken : Option ℕ) : Type 0 where
   pub fate : Fate
   pub counts : LanesGoOn faults (fate ∷ []) old new
   pub acts : (sessions : NumberMap Session)
       → ActsAs segments (state_of old sessions) (state_of new sessions) (λ cluster. happening cluster lane event fate) [] broken
 
--- an event came to a lane, and by the fate of the call of a replica the definitions show a message lost there where this is so
+-- an event came to a lane; by the fate of the call of a replica, the definitions show a message lost there exactly if `lost` says so
 pub record IsLosing {R : Type 0} (segments : R → Option Segments) (faults : R → ℕ) (old new : List (LaneState R)) (lane : ℕ) (event : Event) (broken : Option ℕ) (lost : Bool) : Type 0 where
   pub happens : IsHappening segments faults old new lane event broken
   pub shows : (sessions : NumberMap Session) (cluster : Cluster) → IsOf segments (state_of old sessions) cluster
@@ -68,7 +68,7 @@ IsPlain (events.Deliver number) = ⊥
 IsPlain (events.Crash master) = ⊥
 IsPlain event = ⊤
 
--- a deed that may be done where there are so many lanes and masters
+-- a deed that may be done if there are so many lanes and masters
 pub record IsDeed (lanes masters : ℕ) (deed : Deed) : Type 0 where
   pub there : deed.lane < lanes
   pub plain : IsPlain deed.event
@@ -89,7 +89,7 @@ WhereWorn Holds errors.NoMemory = ⊤
 WhereWorn Holds (errors.Code code) = ⊥
 WhereWorn Holds (errors.Worn number) = Holds number
 
--- these occurrences, with more behind them, ended where this is worn
+-- these occurrences, with more behind them, ended at this number, which is worn
 abbrev pub EndsWorn : {R : Type 0} → (R → Option Segments) → ClusterState R → ClusterState R → List Occurrence → ℕ → Type 0
 EndsWorn segments old new all number = (more : List Occurrence) → Acts segments old new (all ++ more) [] (Some number)
 

@@ -1,4 +1,4 @@
--- What the lanes of a cluster in code tell of the clusters that it stands for.
+-- What the lanes of a cluster in code show of the clusters that it stands for.
 use Rattle.std.specs.Prelude.{◌≡◌, List, Option, ⊤}
 use Rattle.rk_types.specs.NumberMap.{NumberMap}
 use Rattle.rk_outside.specs.Segments.{Segments}
@@ -16,7 +16,7 @@ use Rattle.rk_cluster.specs.declared.error.ClusterError.TheVariants as errors
 abbrev pub LaneTells : {R T : Type 0} → (R → Option Segments) → LaneState R → (World → T) → T → Type 0
 LaneTells segments lane look seen = (w : World) → IsWorld segments lane w → look w ≡ seen
 
--- in each cluster of the definitions that one in code stands for, this is seen
+-- in each cluster of the definitions that a cluster in code stands for, this is seen
 abbrev pub Tells : {R T : Type 0} → (R → Option Segments) → ClusterState R → (Cluster → T) → T → Type 0
 Tells segments state look seen = (cluster : Cluster) → IsOf segments state cluster → look cluster ≡ seen
 

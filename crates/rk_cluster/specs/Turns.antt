@@ -23,7 +23,7 @@ is_call_in lane (Some call) = call_lane call == lane
 abbrev pub clients_in : ℕ → NumberMap Session → List ℕ
 clients_in lane sessions = numbers (filter (λ entry. is_call_in lane entry.1.outstanding) sessions)
 
--- the masters that live in a lane where this runs, by rising number
+-- the masters that live in a lane in which this runs, by rising number
 abbrev pub live_in : {R : Type 0} → LaneState R → Running → List ℕ
 live_in lane running = numbers (live_masters (world_with lane running []))
 

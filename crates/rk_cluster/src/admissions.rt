@@ -97,7 +97,7 @@ pub(crate) fn admit_migration<R: Replica + Drop>(
     Ok(concerned)
 }
 
-/// A tablet is to be split at a hash: the number of the one that the hashes from there on become.
+/// A tablet is to be split at a hash: the number of the tablet that the hashes from there on become.
 pub(crate) fn admit_split<R: Replica + Drop>(
     lanes: &[Lane<R>],
     tablet: u32,

@@ -198,7 +198,7 @@ impl<R: Replica + Drop> Cluster<R> {
     {
         let alloc = self.alloc();
         let first = &self.lanes[0];
-        // A lane that is asked whether it is spent tells that its coordinator counts its masters.
+        // By the contract of `spent`, the lane's coordinator counts its masters.
         let _spent = first.spent();
         if master < 1 || master > self.masters {
             return Err(ClusterError::Code(Code::Unknown));
@@ -211,7 +211,7 @@ impl<R: Replica + Drop> Cluster<R> {
         Ok(nothing_said(alloc))
     }
 
-    /// The message of a number is delivered, where it is on a lane's wire; it stays there. A client that has a session takes it
+    /// The message of a number is delivered, if it is on a lane's wire; it stays there. A client that has a session takes it
     /// itself, and what it says of its call then is answered, at most one thing; nobody takes a message for a client without
     /// one. Answered too is whether the message was lost at a backup, since the backup's replica failed. `NoMemory` may also
     /// come once the message is taken. What its receiver takes.
@@ -253,7 +253,7 @@ impl<R: Replica + Drop> Cluster<R> {
         Ok(listed(alloc, delivered.said)?)
     }
 
-    /// The message at a place of a lane's wire, counted from 1, the oldest first, is forgotten, also where the lane is worn. It takes
+    /// The message at a place of a lane's wire, counted from 1, the oldest first, is forgotten, even if the lane is worn. It takes
     /// no memory. A step for each message up to there.
     pub fn forget(&mut self, lane: u8, place: u32) -> Result<Vec<Said>, ClusterError>
         requires { lane < LANES }

@@ -24,7 +24,7 @@ pub enum Code {
     LastMaster,
     /// In no lane does the tablet migrate short of what is asked.
     NotMigrating,
-    /// No message stands at that place of the wire.
+    /// No message is at that place of the wire.
     NoPlace,
     /// As many are there as may be.
     Limit,

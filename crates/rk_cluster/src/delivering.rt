@@ -26,8 +26,8 @@ pub struct Delivered {
     pub failed: bool,
 }
 
-/// The message of a number is delivered, where it is on a lane's wire: a client that has a session takes it itself, and says
-/// what it tells of its call; a client without one takes nothing, and each other node takes it by an event of the lane. It is
+/// The message of a number is delivered, if it is on a lane's wire: a client that has a session takes it itself, and reports
+/// what it says of its call; a client without one takes nothing, and each other node takes it by an event of the lane. It is
 /// looked up once, to see whom it is for, and goes by value to who takes it.
 pub(crate) fn deliver_in<R: Replica + Drop>(
     lanes: &mut Vec<Lane<R>>,
@@ -97,7 +97,7 @@ fn quietly() -> Delivered
     }
 }
 
-// Whether a message to this node was lost at a backup, where it may have been lost.
+// Whether a message to this node was lost at a backup; `lost` says whether it was lost at all.
 fn is_lost_at_backup(to: Node, lost: bool) -> bool
     ensures { result ≡ (is_backup (Some to) && lost) }
 {

@@ -1,7 +1,7 @@
 //! Eight lanes and the sessions of the clients that act in them: what each call of a user does there, and with which code it
 //! is refused.
 //!
-//! It stands on `rk_lane`, `rk_session` and the definitions of `rk_world`. Its own definitions stand in `specs`: what a call
+//! It builds on `rk_lane`, `rk_session` and the definitions of `rk_world`. Its own definitions are in `specs`: what a call
 //! looks at (`Looks`), its codes in the order in which they are tested (`Codes`), the events that it makes (`Makes`), and
 //! what comes of these (`Acted`).
 #![tactic(auto)]

@@ -20,12 +20,12 @@ pub(crate) fn is_master<R: Replica + Drop>(lanes: &[Lane<R>], masters: u8, maste
     ensures told { LanesTell R.segments lanes.now (λ cluster. looks.is_master cluster master) result }
     ensures there { result ≡ true → IsMaster masters master }
 {
-    // A lane that is asked whether it is spent tells that its coordinator counts its masters.
+    // By the contract of `spent`, the lane's coordinator counts its masters.
     let _spent = lanes[0].spent();
     1 <= master && master <= masters
 }
 
-/// Whether a master has crashed. A step for each one that has.
+/// Whether a master has crashed. A step for each master that has.
 pub(crate) fn is_dead<R: Replica + Drop>(lanes: &[Lane<R>], master: u8) -> bool
     requires { 1 ≤ length lanes.now }
     ensures { LanesTell R.segments lanes.now (λ cluster. looks.is_dead cluster master) result }
@@ -153,7 +153,7 @@ fn is_owner_dead<R: Replica + Drop>(lane: &Lane<R>, tablet: u32) -> bool
     lane.crashed(owner)
 }
 
-/// How many calls the clients asked; 2^64 - 1 where they are more. A step for each client.
+/// How many calls the clients asked; 2^64 - 1 if they are more. A step for each client.
 pub(crate) fn calls_asked(sessions: &BTreeMap<u32, Session>) -> u64
     ensures { result ≡ min (sum (map (λ entry. looks.calls_of entry.1) sessions.now.entries)) (2 ^ 64 - 1) }
 {

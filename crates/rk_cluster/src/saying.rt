@@ -30,7 +30,7 @@ pub(crate) fn asked_by(session: &Session) -> Option<Asked>
     })
 }
 
-/// What a client says of a lane's answer, where its outstanding call was this one before; its session is that after it. An
+/// What a client says of a lane's answer, if this was its outstanding call before; `session` is its session after it. An
 /// answer that says that the lane is worn ends in an error, and so does want of memory.
 pub(crate) fn tell(
     asked: Option<Asked>,

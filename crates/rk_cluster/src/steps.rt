@@ -68,7 +68,7 @@ pub(crate) fn deliver_told<R: Replica + Drop>(
     Ok(has_lost(&answer))
 }
 
-/// A crash comes to a lane, also to one that is worn; it takes no memory. A refusal of it is passed over.
+/// A crash comes to a lane, even if that is worn; it takes no memory. A refusal of it is passed over.
 pub(crate) fn act_anyway<R: Replica + Drop>(lanes: &mut Vec<Lane<R>>, lane: u8, event: Event)
     requires there { lane < length lanes.old.items }
     requires anyway { comes_anyway event ≡ true }
@@ -83,7 +83,7 @@ pub(crate) fn act_anyway<R: Replica + Drop>(lanes: &mut Vec<Lane<R>>, lane: u8, 
     let _ = lanes[lane as usize].step(event);
 }
 
-/// The message of a number is lost in a lane, also in one that is worn; that takes no memory. One that is not there is passed over.
+/// The message of a number is lost in a lane, even if that is worn; this takes no memory. A message that is not there is passed over.
 pub(crate) fn lose<R: Replica + Drop>(lanes: &mut Vec<Lane<R>>, lane: u8, number: u64)
     requires { lane < length lanes.old.items }
     ensures happens { IsHappening R.segments R.faults lanes.old.items lanes.new.items lane (events.Forget number) None }
@@ -117,7 +117,7 @@ pub(crate) fn heard(answer: &Result<Seen, StepError>) -> Result<(), ClusterError
     }
 }
 
-/// Deeds are done, one after the other, up to one that finds its lane worn, or for which memory is wanting.
+/// Deeds are done, one after the other, up to a deed that finds its lane worn, or for which memory is wanting.
 pub(crate) fn act_all<R: Replica + Drop>(
     lanes: &mut Vec<Lane<R>>,
     masters: u8,

@@ -54,7 +54,7 @@ fn is_asking_in(session: &Session, lane: u8) -> bool
     }
 }
 
-// Puts something at the end of a list, where it is wanted there.
+// Puts something at the end of a list, if it is wanted there.
 fn push_where<T: Copy>(items: &mut Vec<T>, item: T, wanted: bool) -> Result<(), NoMemory>
     ensures { OnOk result (items.new.items ≡ items.old.items ++ (if wanted then item ∷ [] else [])) }
 {
@@ -64,8 +64,8 @@ fn push_where<T: Copy>(items: &mut Vec<T>, item: T, wanted: bool) -> Result<(), 
     Ok(())
 }
 
-/// Clients that have sessions take their turns in a lane, one after the other, up to one that finds the lane worn, or for which memory is
-/// wanting.
+/// Clients that have sessions take their turns in a lane, one after the other, up to a client that finds the lane worn, or for which
+/// memory is wanting.
 pub(crate) fn ask_all<R: Replica + Drop>(
     lanes: &mut Vec<Lane<R>>,
     sessions: &mut BTreeMap<u32, Session>,
@@ -95,8 +95,8 @@ pub(crate) fn ask_all<R: Replica + Drop>(
     Ok(())
 }
 
-/// The masters that live in a lane of so many, by rising number; of one that is spent, none. A step for each master and each
-/// one that has crashed.
+/// The masters that live in a lane of so many, by rising number; none if the lane is spent. A step for each master, and for
+/// each that has crashed.
 pub(crate) fn live_in<R: Replica + Drop>(
     alloc: Global,
     at: &Lane<R>,

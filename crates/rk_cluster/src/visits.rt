@@ -52,7 +52,7 @@ pub(crate) fn ask_in<R: Replica + Drop>(
     heard(&answer)
 }
 
-/// A client that has a session takes a message that was looked up in a lane, and says what it tells of its call. A refusal is passed
+/// A client that has a session takes a message that was looked up in a lane, and reports what it says of its call. A refusal is passed
 /// over, unless memory is wanting; that may also come once the message is taken. No search for the message.
 pub(crate) fn accept_in<R: Replica + Drop>(
     lanes: &mut Vec<Lane<R>>,

@@ -1,4 +1,4 @@
--- A session that may act still may after its turn, also where that is not told in the lane, and after an answer.
+-- A session that may act still may after its turn, even if the lane did not record that, and after an answer.
 use Rattle.rk_lane.proofs.Words.{arith, ◌≡◌, ◌==◌, ℕ, Bool, true, false, cond, not, [], length, filter, All, Option, None, Some, IfOk}
 use Rattle.rk_lane.proofs.Words.{Result, Ok, Err, ⊎_elim, sym, subst, ◌∙◌, All-nil, All-set, Call, Located, accept, ask, MOST_REQUESTS}
 use Rattle.rk_lane.proofs.Words.{Session, looking_up, range_of, session_turn, turn_by, turn_of, turn_to, MayAct, StepError, Seen, IsKept}

@@ -1,4 +1,4 @@
--- A backup took a message: what it answered, and what its replica tells then.
+-- A backup took a message: what it answered, and what its replica reports then.
 use Rattle.rk_lane.proofs.Words.{arith, ◌≡◌, ◌≤◌, ◌-◌, ℕ, Bool, true, cond, List, [], ◌∷◌, length, Option, None, Some, IfSome, Result, Ok}
 use Rattle.rk_lane.proofs.Words.{Err, refl, sym, ap, subst, ◌∙◌, ⊤, Node, Segments, WhereTold, Lost, number_of, replica_of, BackupLane}
 use Rattle.rk_lane.proofs.Words.{Body, Message, Backed, Called, Appended, Failed, Gave, backup_step, called_by, failing, stored_after}

@@ -1,4 +1,4 @@
--- An event is taken: when it may come, and what it makes of parts and backups where it calls no replica.
+-- An event is taken: when it may come, and what it makes of parts and backups if it calls no replica.
 use Rattle.rk_lane.proofs.Words.{arith, ◌≡◌, ℕ, false, inr, List, [], Option, None, refl, ◌∙◌, NumberMap, Node, Segments, BackupLane, Gave}
 use Rattle.rk_lane.proofs.Words.{comes_anyway, fault_of, refusal, worn, told_by_replica, Event, Seen, IsHappened, AreNumbered}
 use Rattle.rk_lane.proofs.Words.{CallsNoReplica, IsMade, IsOfBackup, IsReady, Message, Some, get, receiver_of, world_of, Parts}

@@ -1,4 +1,4 @@
--- Journals that grow: what was there before stands at their front.
+-- Journals that grow: what was there before is at their front.
 use Rattle.rk_lane.proofs.Words.{◌≡◌, ℕ, List, [], ◌++◌, length, take, Option, Some, None, refl, sym, append_assoc, append-nil, arith, Call}
 use Rattle.rk_lane.proofs.Words.{Ended, Placed, Rebuilt, outcome_of, Ledger, asked_by, seen_of, with_all_served, with_end, with_ends}
 use Rattle.rk_lane.proofs.Words.{with_rebuilt, with_record, with_served, Served}

@@ -1,4 +1,4 @@
--- What the code of a master asks of a message holds of each one that stands on the wire.
+-- What the code of a master asks of a message holds of each message on the wire.
 use Rattle.rk_lane.proofs.Words.{arith, ℕ, Node, Body, IsFormedBody, Limits, limits_of, World, master_at}
 use Rattle.rk_types.specs.declared.node.Node.TheVariants as nodes
 use Rattle.rk_log.specs.Log.{IsBackup}

@@ -1,4 +1,4 @@
--- What backups tell, once one of them took a message.
+-- What backups report, once one of them took a message.
 use Rattle.rk_lane.proofs.Words.{◌≡◌, ◌≤◌, ◌-◌, ◌+◌, ℕ, zero, suc, List, [], ◌∷◌, map, set, slice_get, Option, None, Some, refl, sym, ap}
 use Rattle.rk_lane.proofs.Words.{subst, ◌∙◌, ⊎_elim, arith, cases_eq, get_other, get_same, NumberMap, get, insert, Node, Segments}
 use Rattle.rk_lane.proofs.Words.{WhereTold, number_of, replica_of, BackupLane, AreNumbered, AreTold, IsTold}

@@ -1,4 +1,4 @@
--- The greatest number of a lane, once what stands is counted: a number that all that stands keeps to, and that is not above the greatest.
+-- The greatest number of a lane, once all that is in it is counted: a number that all of that keeps to, and that is not above the greatest.
 use Rattle.rk_lane.proofs.Words.{◌≡◌, ◌≤◌, ℕ, max, ◌∷◌, ◌++◌, ap, arith, last_stamp, Master, World, counters_of, greatest, with_top}
 use Rattle.rk_lane.proofs.Words.{KeepsTo}
 use Rattle.rk_world.specs.World.{standing}

@@ -36,7 +36,7 @@ abbrev pub IsLogOf : List (Option Master) → (ℕ → ℕ → List ℕ) → Bod
 IsLogOf masters log (bodies.Read wanted) = IsLogAt masters log wanted
 IsLogOf masters log _ = ⊤
 
--- what a Stored tells is no longer than a segment
+-- the length that a Stored reports is at most that of a segment
 abbrev pub IsWithinSegment : Body → Type 0
 IsWithinSegment (bodies.Stored stored) = stored.length ≤ SEGMENT_BYTES
 IsWithinSegment _ = ⊤
@@ -45,8 +45,8 @@ IsWithinSegment _ = ⊤
 abbrev pub sending : List Message → Backed
 sending sends = record { sends = sends; lost = false }
 
--- a backup took what a sender says, where masters have these logs: by what the call of its replica came to it answered so, what the
--- replica tells is that of the definitions, and its count of faults rose just where it failed
+-- a backup took what a sender says, if masters have these logs: by what the call of its replica came to it answered so, what the
+-- replica reports is that of the definitions, and its count of faults rose just if it failed
 pub record IsBackedBy {R : Type 0} (segments : R → Option Segments) (faults : R → ℕ) (old new : BackupLane R) (from : Node) (body : Body) (log : ℕ → ℕ → List ℕ) (backed : Backed) : Type 0 where
   pub called : Called
   pub may : MayCome called

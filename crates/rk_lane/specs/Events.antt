@@ -24,12 +24,12 @@ use Rattle.rk_world.specs.declared.event.Seen.{Seen}
 use Rattle.rk_lane.specs.LaneState.{AreTold, LaneState, Running, world_with}
 use Rattle.rk_lane.specs.declared.messages.Arrival.{Arrival}
 
--- an event may come to a lane where it is not spent: it names what is there, and a crash leaves another master alive
+-- an event may come to a lane that is not spent: it names what is there, and a crash leaves another master alive
 pub record MayStep (w : World) (event : Event) : Type 0 where
   pub may : MayHappen w event
   pub calm : IsCalmEvent w event
 
--- an event may come to a lane: it names what is there in a lane with so many masters, and where the lane is not spent a crash leaves
+-- an event may come to a lane: it names what is there in a lane with so many masters, and if the lane is not spent, a crash leaves
 -- another master alive
 pub record MayComeTo {R : Type 0} (lane : LaneState R) (event : Event) : Type 0 where
   pub may : MayHappen (new_world lane.number lane.masters (length lane.backups)) event
@@ -44,14 +44,14 @@ abbrev pub IsFailed : Called → Type 0
 IsFailed (Failed stored) = ⊤
 IsFailed called = ⊥
 
--- the call of a replica came to what one answers that tells what it stores: to what it answers without a fault, or where it failed, with
--- one
+-- the call of a replica came to what a replica that reports what it stores answers: to its answer without a fault, or, if it failed, to
+-- that with one
 pub record IsAnswerOf (answer : Option ℕ → Called) (called : Called) : Type 0 where
   pub fine : (IsFailed called → ⊥) → called ≡ answer None
   pub failed : IsFailed called → (kept : ℕ) × (called ≡ answer (Some kept))
 
--- a lane took an event, where what its backups store is what their replicas tell: the world after it is that of the lane after it. Where
--- all of them tell it, the call of a replica came to what that one answers
+-- a lane took an event, if what its backups store is what their replicas report: the world after it is that of the lane after it. If all
+-- of them report it, the call of a replica came to what that replica answers
 pub record IsStepFrom {R : Type 0} (segments : R → Option Segments) (w : World) (event : Event) (called : Called) (new : LaneState R) (after : Running) (seen : Seen) : Type 0 where
   pub backups : NumberMap Segments
   pub stepped : step w event called ≡ Ok (record { world = world_with new after backups; seen = seen })
@@ -77,7 +77,7 @@ pub record OneFailed {R : Type 0} (faults : R → ℕ) (receiver : Option Node) 
   pub counts : fault_counts faults new ≡ slice_set (fault_counts faults old) place now
   pub rose : Rose before now
 
--- the call of a replica failed only where the replica of the backup that was reached failed once more, and else no count of faults changed
+-- the call of a replica failed only if the replica of the backup that was reached failed once more, and else no count of faults changed
 abbrev pub HasCause : {R : Type 0} → (R → ℕ) → Option Node → Called → List (BackupLane R) → List (BackupLane R) → Type 0
 HasCause faults receiver called old new =
     (IsFailed called × OneFailed faults receiver old new) ⊎ ((IsFailed called → ⊥) × (fault_counts faults new ≡ fault_counts faults old))
@@ -97,8 +97,8 @@ pub record IsStepOf {R : Type 0} (segments : R → Option Segments) (faults : R 
   pub stepped : (backups : NumberMap Segments) → AreTold segments old.backups backups
       → IsStepFrom segments (world_with old before backups) event called new after seen
 
--- a lane refused an event, and is as it was; for want of memory it is spent, and its journal, the calls that were asked and the clients that
--- were added are as they were
+-- a lane refused an event, and is as it was; for want of memory it is spent, and its journal, the calls that were asked and the clients
+-- that were added are as they were
 pub record IsRefused {R : Type 0} (faults : R → ℕ) (event : Event) (old new : LaneState R) (error : StepError) : Type 0 where
   pub cause : error ≢ errors.NoMemory → IsSomeAnd old.running (λ running. refusal (world_with old running []) event ≡ Some error)
   pub same : error ≢ errors.NoMemory → new ≡ old

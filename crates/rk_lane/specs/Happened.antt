@@ -19,8 +19,8 @@ use Rattle.rk_lane.specs.Made.{IsSameParts, KeepsLedger}
 use Rattle.rk_lane.specs.Parts.{IsKept, world_of}
 use Rattle.rk_lane.specs.declared.parts.Parts.{Parts}
 
--- what backups store once an event came that made this of the parts, where what they stored is what their replicas told. Where all of
--- them told it, the call of a replica came to what that one answers
+-- what backups store once an event came that made this of the parts, if what they stored is what their replicas reported. If all of
+-- them reported it, the call of a replica came to what that replica answers
 pub record IsToldAfter {R : Type 0} (segments : R → Option Segments) (old : Parts) (event : Event) (called : Called) (new : Parts) (backups : List (BackupLane R)) (seen : Seen) (stored : NumberMap Segments) : Type 0 where
   pub now : NumberMap Segments
   pub made : happened (world_of old stored) event called ≡ record { world = world_of new now; seen = seen }

@@ -12,7 +12,7 @@ use Rattle.rk_world.specs.Master.{Master}
 use Rattle.rk_world.specs.World.{World}
 
 -- what runs in a lane: its masters, crashed ones too; the coordinator; the wire; the masters that have crashed; and the greatest
--- number that has stood in it
+-- number that has been in it
 pub record Running : Type 0 where
   pub masters : NumberMap Master
   pub coordinator : Coordinator
@@ -20,7 +20,7 @@ pub record Running : Type 0 where
   pub crashed : List ℕ
   pub top : ℕ
 
--- what contracts see of a lane: its number, how many masters it has, its ledger, what runs in it, none where it is spent, and its
+-- what contracts see of a lane: its number, how many masters it has, its ledger, what runs in it, none if it is spent, and its
 -- backups
 pub record LaneState (R : Type 0) : Type 0 where
   pub number : ℕ
@@ -29,7 +29,7 @@ pub record LaneState (R : Type 0) : Type 0 where
   pub running : Option Running
   pub backups : List (BackupLane R)
 
--- the world of a lane in which this runs, where its backups store this; its history starts from nothing
+-- the world of a lane in which this runs, and whose backups store this; its history starts from nothing
 abbrev pub world_with : {R : Type 0} → LaneState R → Running → NumberMap Segments → World
 world_with lane running backups = record {
   lane = lane.number;
@@ -44,7 +44,7 @@ world_with lane running backups = record {
   base = no_base;
 }
 
--- the backup of a number, counted from 1, has a replica that tells just these segments
+-- the backup of a number, counted from 1, has a replica that reports just these segments
 pub record IsTold {R : Type 0} (segments : R → Option Segments) (backups : List (BackupLane R)) (number : ℕ) (stored : Segments) : Type 0 where
   pub place : ℕ
   pub number_is : number ≡ place + 1
@@ -52,7 +52,7 @@ pub record IsTold {R : Type 0} (segments : R → Option Segments) (backups : Lis
   pub there : slice_get backups place ≡ Some backup
   pub tells : segments (replica_of backup) ≡ Some stored
 
--- each of these segments is what the replica of its backup tells; of a replica that does not tell, there may be none
+-- each of these segments is what the replica of its backup reports; of a replica that does not report, there may be none
 abbrev pub AreTold : {R : Type 0} → (R → Option Segments) → List (BackupLane R) → NumberMap Segments → Type 0
 AreTold segments backups stored = EachIn (IsTold segments backups) stored
 

@@ -1,4 +1,4 @@
--- What an event makes of the parts of a lane in code, where it calls no replica.
+-- What an event makes of the parts of a lane in code, if it calls no replica.
 use Rattle.std.specs.Prelude.{◌≡◌, ◌≢◌, ℕ, [], if◌then◌else◌, length, Option, Some, None, IfSome, ⊤}
 use Rattle.rk_types.specs.NumberMap.{NumberMap, get}
 use Rattle.rk_types.specs.declared.node.Node.{Node}

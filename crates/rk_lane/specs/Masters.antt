@@ -9,7 +9,7 @@ use Rattle.rk_master.specs.Parts.{marks_of}
 use Rattle.rk_master.specs.Taking.{CanTake}
 use Rattle.rk_master.specs.declared.work.Worked.{Worked as Work}
 
--- this master stands under a number, counted from 1
+-- this is the master of a number, counted from 1
 abbrev pub IsAt : List (Option Master) → ℕ → Master → Type 0
 IsAt masters number master = slice_get masters (number - 1) ≡ Some (Some master)
 

@@ -10,7 +10,7 @@ abbrev pub owner_by : ℕ → Phase → Option Owner
 owner_by term (Owned master from) = Some (record { master = master; term = term })
 owner_by term _ = None
 
--- the owner of a row, if there is one that is owned
+-- the owner of a row, if there is a row and it is owned
 abbrev pub owner_in : Option Row → Option Owner
 owner_in None = None
 owner_in (Some row) = owner_by row.term row.phase

@@ -27,7 +27,7 @@ running_of parts = record {
   top = parts.top;
 }
 
--- the world of a lane with these parts, where its backups store this
+-- the world of a lane with these parts, whose backups store this
 abbrev pub world_of : Parts → NumberMap Segments → World
 world_of parts backups = record {
   lane = parts.number;

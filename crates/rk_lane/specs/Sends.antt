@@ -7,7 +7,7 @@ use Rattle.rk_message.specs.declared.message.Message.{Message}
 use Rattle.rk_world.specs.Step.{first_number}
 use Rattle.rk_lane.specs.declared.sends.Sent.{Sent}
 
--- these messages were sent, one after the other: the wire has them, and this tells the number of the first one, how many there are, and a
+-- these messages were sent, one after the other: the wire has them, and this states the number of the first one, how many there are, and a
 -- number up to which numbers were given
 pub record IsSent (old : Traffic) (sends : List Message) (new : Traffic) (sent : Sent) : Type 0 where
   pub wire : new ≡ fold (λ wire message. with_message message wire) old sends

@@ -33,7 +33,7 @@ abbrev pub noted : Ledger → ℕ → Option LastCall → Ledger
 noted ledger client None = ledger
 noted ledger client (Some last) = with_asked ledger client last
 
--- the message, where what it says is a request
+-- the message, if what it says is a request
 abbrev pub request_told : Message → Body → Option Message
 request_told message (bodies.Request request) = Some message
 request_told message _ = None
@@ -43,12 +43,12 @@ abbrev pub saved : Ledger → ℕ → Option Message → Ledger
 saved ledger client None = ledger
 saved ledger client (Some message) = with_request ledger client message
 
--- the place of the record that a reply tells
+-- the place of the record, as a reply gives it
 abbrev pub place_told : Body → Option ℕ
 place_told (bodies.Reply reply) = Some reply.place
 place_told _ = None
 
--- the record at the place that was told is accepted, where the client took it for the answer to its call
+-- the record at the place that a reply gave is accepted, if the client took the reply for the answer to its call
 abbrev pub accepted_by : Ledger → Option ℕ → Taken → Ledger
 accepted_by ledger (Some place) takes.Done = with_accepted ledger place
 accepted_by ledger place taken = ledger

@@ -23,7 +23,7 @@ use rk_types::{Node, SEGMENT_BYTES};
 use rk_world::{Seen, StepError};
 use std::alloc::Global;
 
-/// A message reaches a backup; it is lost where the replica fails that it calls. What the backup takes of it.
+/// A message reaches a backup; it is lost if the replica that it calls fails. What the backup takes of it.
 pub(crate) fn deliver_to_backup<R: Replica + Drop>(
     parts: &mut Parts,
     backups: &mut Vec<BackupLane<R>>,
@@ -92,7 +92,7 @@ fn answer<R: Replica + Drop>(
     }
 }
 
-// A backup takes a master's Append. `NoMemory` comes also where a replica has more bytes of a segment than that may have.
+// A backup takes a master's Append. `NoMemory` comes also if a replica has more bytes of a segment than that may have.
 fn store<R: Replica + Drop>(
     backup: &mut BackupLane<R>,
     alloc: Global,
@@ -131,7 +131,7 @@ fn read<R: Replica + Drop>(
     Ok(Some(answer))
 }
 
-// Whether what a Stored tells is no longer than a segment.
+// Whether the length that a Stored reports is at most that of a segment.
 fn is_within_segment(body: &Body) -> bool
     ensures { result ≡ true → IsWithinSegment body.now }
 {

@@ -33,7 +33,7 @@ pub(crate) fn forget(parts: &mut Parts, number: u64) -> Result<Seen, StepError>
     Ok(quiet())
 }
 
-/// A master stops for ever. A step for each one that has.
+/// A master stops for ever. A step for each master that has.
 pub(crate) fn crash(parts: &mut Parts, master: u8) -> Result<Seen, StepError>
     requires kept { IsKept parts.old }
     requires may { MayStep (world_of parts.old []) (events.Crash master) }

@@ -66,7 +66,7 @@ fn handle(
     Ok(handled.sends)
 }
 
-/// The greatest term of a row, 0 where there is none. A step for each row.
+/// The greatest term of a row, 0 if there is none. A step for each row.
 pub(crate) fn greatest_term(coordinator: &CoordinatorLane) -> u64
     ensures { result ≡ greatest (terms_of coordinator.now.rows) }
 {

@@ -1,4 +1,4 @@
-// What is told of a whole journal.
+// A copy of a whole journal.
 ghost use Rattle.std.specs.Prelude.{◌≡◌, IfOk};
 
 use rk_types::{NoMemory, Placed};

@@ -13,7 +13,7 @@ use rk_message::Message;
 use rk_types::NoMemory;
 use rk_world::{Seen, StepError};
 
-/// Sends messages, and raises the greatest number to that of the last one. Where there is no memory for that the records of
+/// Sends messages, and raises the greatest number to that of the last one. If there is no memory for that, the records of
 /// the journal from a place on are taken away again.
 pub(crate) fn finish(
     parts: &mut Parts,
@@ -44,7 +44,7 @@ pub(crate) fn finish_one(
     close(parts, sent, records)
 }
 
-// Raises the greatest number to that of the last message that was sent; where not all could be sent, the records of the journal
+// Raises the greatest number to that of the last message that was sent; if not all could be sent, the records of the journal
 // from a place on are taken away again.
 fn close(parts: &mut Parts, sent: Result<Sent, NoMemory>, records: usize) -> Result<Seen, StepError>
     ensures ok { (old : Before) (sends : List Posted) → parts.old ≡ record old { wire = parts.old.wire } → IfOk sent (IsSent old.wire sends parts.old.wire)

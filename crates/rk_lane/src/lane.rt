@@ -68,7 +68,7 @@ impl<R> Model for Lane<R> {
 
 impl<R: Replica + Drop> Lane<R> {
     /// A lane of this number where nothing has happened, with so many masters, numbered from 1, and a backup for each
-    /// replica, numbered from 1 in their order. Where replicas tell that no segment was ever written, that is what its
+    /// replica, numbered from 1 in their order. If replicas report that no segment was ever written, that is what its
     /// backups store.
     pub fn new(
         alloc: Global,
@@ -160,7 +160,7 @@ impl<R: Replica + Drop> Lane<R> {
         self.parts.ledger.accepted()
     }
 
-    /// The greatest number that has stood in a lane that is not spent: of messages, stamps, terms and counters. It is kept,
+    /// The greatest number that has been in a lane that is not spent: of messages, stamps, terms and counters. It is kept,
     /// not computed.
     pub fn top(&self) -> u64
         ensures { IfSome self.now.running (λ running. result ≡ running.top) }
@@ -190,7 +190,7 @@ impl<R: Replica + Drop> Lane<R> {
         &self.parts.masters[number as usize - 1]
     }
 
-    /// Whether a master has crashed, in a lane that is not spent. A step for each one that has.
+    /// Whether a master has crashed, in a lane that is not spent. A step for each master that has.
     pub fn crashed(&self, master: u8) -> bool
         ensures { IfSome self.now.running (λ running. result ≡ has_crashed (world_with self.now running []) master) }
     {
@@ -198,21 +198,21 @@ impl<R: Replica + Drop> Lane<R> {
     }
 
     /// Whether another master than this one lives, in a lane that is not spent: only then may this one crash. A step for
-    /// each master, and for each one that has crashed.
+    /// each master, and for each that has crashed.
     pub fn lives_another(&self, master: u8) -> bool
         ensures { IfSome self.now.running (λ running. result ≡ lives_another_lem (world_with self.now running []) master) }
     {
         lives_another(&self.parts, master)
     }
 
-    /// Whether the coordinator of a lane that is not spent noticed a master dead. A step for each one that it did.
+    /// Whether the coordinator of a lane that is not spent noticed a master dead. A step for each master that it did.
     pub fn noticed(&self, master: u8) -> bool
         ensures { IfSome self.now.running (λ running. result ≡ is_noticed running.coordinator master) }
     {
         self.parts.coordinator.noticed(master)
     }
 
-    /// Whether no turn of the coordinator or of a master that lives would leave anything in the lane, as far as a look tells; false where the
+    /// Whether no turn of the coordinator or of a master that lives would leave anything in the lane, as far as a look shows; false if the
     /// lane is worn or spent. A look at each row, each master, and each of its tablets and backups.
     pub fn rests(&self) -> bool
         ensures { result ≡ true → IfSome self.now.running (λ running. (stored : NumberMap Segments)

@@ -1,7 +1,7 @@
 //! One lane of the cluster: its masters, its coordinator, its backups over any replicas, the wire between them, and its
 //! ledger; and how an event, a client's turn or an answer changes all of these at once.
 //!
-//! It stands on the crates of the nodes and on the laws of well formed lanes. What it promises: contracts see a [`Lane`] as
+//! It builds on the crates of the nodes and on the laws of well formed lanes. What it promises: contracts see a [`Lane`] as
 //! a world of the definitions, and each event, turn and answer makes of it just what the definitions do; a refusal changes
 //! nothing, and after want of memory in an event the lane is spent, with its journal as it was. A message that was looked up
 //! already comes to a lane by value, as an [`Arrival`], and is not looked up again.

@@ -45,7 +45,7 @@ pub(crate) fn turn_master(masters: &mut Vec<MasterLane>, master: u8) -> Result<W
     it.turn()
 }
 
-/// Whether a master would send nothing on its turn, as far as a look tells. A look at each of its backups and tablets.
+/// Whether a master would send nothing on its turn, as far as a look shows. A look at each of its backups and tablets.
 pub(crate) fn rests_at(masters: &[MasterLane], master: u8) -> bool
     requires { IsMaster (length masters.now) master }
     ensures { result ≡ true → SendsNothing masters.now master }

@@ -16,7 +16,7 @@ pub struct Arrival {
     pub message: Message,
 }
 
-/// The message of a number, read from its frame. `NoMessage` comes exactly where it was never sent or is forgotten, unless memory runs out.
+/// The message of a number, read from its frame. `NoMessage` comes exactly if it was never sent or is forgotten, unless memory runs out.
 /// One search, and the frame is read.
 pub(crate) fn message_of(wire: &Wire, number: u64) -> Result<Message, StepError>
     ensures ok { IfOk result (λ message. get wire.now.messages number ≡ Some message) }

@@ -28,7 +28,7 @@ pub(crate) enum Group {
     Last,
 }
 
-/// The crash of a master is noticed, and with it each other one that was not. For each of these what the coordinator takes,
+/// The crash of a master is noticed, and with it each other crash that was not. For each of these what the coordinator takes,
 /// and a step for each row.
 pub(crate) fn notice(parts: &mut Parts, alloc: Global, master: u8) -> Result<Seen, StepError>
     requires { IsReady parts.old (events.Notice master) }
@@ -110,7 +110,7 @@ fn push_group(
     Ok(())
 }
 
-// Puts a master at the end of a list, where it is wanted there.
+// Puts a master at the end of a list, if it is wanted there.
 fn push_where(masters: &mut Vec<u8>, master: u8, wanted: bool) -> Result<(), NoMemory>
     ensures { OnOk result (masters.new.items ≡ masters.old.items ++ (if wanted then master ∷ [] else [])) }
 {

@@ -36,7 +36,7 @@ pub(crate) struct Parts {
     pub(crate) ledger: LedgerLane,
     // The masters that have crashed, in the order in which that came.
     pub(crate) crashed: Vec<u8>,
-    // The greatest number that has stood in the lane.
+    // The greatest number that has been in the lane.
     pub(crate) top: u64,
     // The bytes of all masters' logs.
     pub(crate) log_bytes: u64,
@@ -70,14 +70,14 @@ impl Parts {
         })
     }
 
-    /// Whether a master has crashed. A step for each one that has.
+    /// Whether a master has crashed. A step for each master that has.
     pub(crate) fn has_crashed(&self, master: u8) -> bool
         ensures { result ≡ has_crashed (world_of self.now []) master }
     {
         self.crashed.iter().any(|crashed| *crashed == master)
     }
 
-    /// The first number of the lane that is too great: the greatest that has stood in it, or the bytes of its logs.
+    /// The first number of the lane that is too great: the greatest that has been in it, or the bytes of its logs.
     pub(crate) fn worn(&self) -> Option<u64>
         requires { IsKept self.now }
         ensures { result ≡ worn (world_of self.now []) }
@@ -91,7 +91,7 @@ impl Parts {
         None
     }
 
-    /// Raises the greatest number, where it is below this one.
+    /// Raises the greatest number, if it is below this one.
     pub(crate) fn raise(&mut self, number: u64)
         ensures { self.new ≡ record self.old { top = max self.old.top number } }
     {
@@ -99,7 +99,7 @@ impl Parts {
     }
 }
 
-/// Whether another master than this one lives. A step for each master, and for each one that has crashed.
+/// Whether another master than this one lives. A step for each master, and for each that has crashed.
 pub(crate) fn lives_another(parts: &Parts, master: u8) -> bool
     ensures { result ≡ lives_another_lem (world_of parts.now []) master }
 {

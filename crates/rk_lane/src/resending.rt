@@ -33,7 +33,7 @@ pub(crate) fn send_again(parts: &mut Parts, alloc: Global, client: u32) -> Resul
     finish(parts, sends, records)
 }
 
-// A copy of the last request of a client, in a list of its own; none where it has none.
+// A copy of the last request of a client, in a list of its own; none if it has none.
 fn last_request(
     alloc: Global,
     ledger: &LedgerLane,

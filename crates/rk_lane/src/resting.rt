@@ -10,7 +10,7 @@ ghost use Rattle.rk_lane.specs.Resting.{IsResting, SendsNothing};
 use crate::masters::rests_at;
 use crate::parts::Parts;
 
-/// Whether no turn would leave anything in a lane that is not worn, as far as a look tells. A look at each row, each master and each
+/// Whether no turn would leave anything in a lane that is not worn, as far as a look shows. A look at each row, each master and each
 /// of its tablets and backups.
 pub(crate) fn rests(parts: &Parts) -> bool
     requires { IsKept parts.now }

@@ -11,11 +11,11 @@ use rk_world::Seen;
 /// Messages that were sent.
 #[derive(Clone, Copy)]
 pub(crate) struct Sent {
-    /// The number of the first one, 0 where there is none.
+    /// The number of the first one, 0 if there is none.
     pub(crate) first: u64,
     /// How many there are.
     pub(crate) count: u64,
-    /// The number of the last one, 0 where there is none.
+    /// The number of the last one, 0 if there is none.
     pub(crate) last: u64,
 }
 
@@ -56,7 +56,7 @@ impl Sent {
     }
 }
 
-/// Puts messages on the wire, one after the other. `NoMemory` also where one is too long for a frame; some first ones are
+/// Puts messages on the wire, one after the other. `NoMemory` also if one is too long for a frame; some first ones are
 /// there then.
 pub(crate) fn send_all(wire: &mut Wire, sends: Vec<Message>) -> Result<Sent, NoMemory>
     requires room { wire.old.sent + length sends.items < 2 ^ 60 }
@@ -73,7 +73,7 @@ pub(crate) fn send_all(wire: &mut Wire, sends: Vec<Message>) -> Result<Sent, NoM
     Ok(sent)
 }
 
-/// Puts a message on the wire, if there is one. `NoMemory` also where it is too long for a frame; the wire is as it was then.
+/// Puts a message on the wire, if there is one. `NoMemory` also if it is too long for a frame; the wire is as it was then.
 pub(crate) fn send_some(wire: &mut Wire, send: Option<Message>) -> Result<Sent, NoMemory>
     requires room { wire.old.sent + length (option_to_list send) < 2 ^ 60 }
     requires lawful { All IsSendable (option_to_list send) }

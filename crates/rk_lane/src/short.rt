@@ -77,7 +77,7 @@ fn is_short_op(op: &Op) -> bool
     }
 }
 
-// How many bytes entries take; 2^64 - 1 where they are more.
+// How many bytes entries take; 2^64 - 1 if they are more.
 fn entry_bytes(entries: &[Entry]) -> u64
     requires { All IsLawfulEntry entries.now }
     ensures { result ≡ min (sum_by (λ entry. length (spelled entry)) entries.now) (2 ^ 64 - 1) }

@@ -21,7 +21,7 @@ pub(crate) struct Owner {
     pub(crate) term: u64,
 }
 
-/// A tablet is split at a hash; its owner serves both parts, where it lives. What both take of it, and a step for each row
+/// A tablet is split at a hash; its owner serves both parts, if it lives. What both take of it, and a step for each row
 /// and each master that has crashed.
 pub(crate) fn split(parts: &mut Parts, tablet: u32, at: u64, new: u32) -> Result<Seen, StepError>
     requires { IsReady parts.old (events.Split tablet at new) }
@@ -54,7 +54,7 @@ pub(crate) fn split(parts: &mut Parts, tablet: u32, at: u64, new: u32) -> Result
     Ok(quiet())
 }
 
-// The owner of a tablet; none where there is no such tablet, and where it moves or is rebuilt.
+// The owner of a tablet; none if there is no such tablet, or if it moves or is rebuilt.
 fn owner_of(map: &TabletMap, tablet: u32) -> Option<Owner>
     ensures { result ≡ owner_in (row_of map.now tablet) }
 {

@@ -63,8 +63,8 @@ pub(crate) fn accept(
     take(parts, Arrival { number, message }, session)
 }
 
-/// A client takes a message that was looked up. One whose call was not asked here ignores it; where the message answers its call, the
-/// record is accepted. After an error, which is never want of memory, lane and session are as they were. A few searches.
+/// A client takes a message that was looked up. A client whose call was not asked here ignores it; if the message answers its call,
+/// the record is accepted. After an error, which is never want of memory, lane and session are as they were. A few searches.
 pub(crate) fn take(
     parts: &mut Parts,
     arrival: Arrival,
@@ -217,7 +217,7 @@ fn is_op(a: &Op, b: &Op) -> bool
     }
 }
 
-// Whether a lane takes a new call of a client: it was asked none, or the one that it was asked is older and accepted.
+// Whether a lane takes a new call of a client: it was asked none, or the call that it was asked is older and accepted.
 fn is_next(ledger: &LedgerLane, session: &Session, call: &Call) -> bool
     ensures { result ≡ calls.is_next ledger.now session.now call.now (asked_by ledger.now session.now.client) }
 {
@@ -253,7 +253,7 @@ fn take_turn(parts: &mut Parts, session: &mut Session) -> Result<Seen, StepError
     Ok(one_sent(number))
 }
 
-// What a call that a client asks is noted by, where it was not asked yet.
+// What a call that a client asks is noted by, if it was not asked yet.
 fn to_note(ledger: &LedgerLane, session: &Session) -> Result<Option<LastCall>, NoMemory>
     ensures last { IfOk result (λ last. last ≡ last_to_note ledger.now session.now session.now.outstanding) }
     ensures room { IfOk result (λ last. IfSome last (λ _. ledger.now.asked < 2 ^ 64 - 1)) }
@@ -279,7 +279,7 @@ fn noting(call: &Call, seen: u64) -> Result<LastCall, NoMemory>
     Ok(LastCall { call, seen })
 }
 
-// What a client sends on its turn; `NoMemory` comes also where no call is outstanding.
+// What a client sends on its turn; `NoMemory` comes also if no call is outstanding.
 fn turn(session: &mut Session) -> Result<Message, NoMemory>
     ensures ok { IfOk result (λ message. session_turn session.old ≡ Some (record { session = session.new; message = message })) }
     ensures err { OnErr result (MayHaveTurned session.old session.new) }
@@ -298,7 +298,7 @@ fn request_in(message: Message) -> Option<Message>
     }
 }
 
-// Puts a message on the wire, and answers its number. After `NoMemory`, which comes also where the message is too long for a
+// Puts a message on the wire, and answers its number. After `NoMemory`, which comes also if the message is too long for a
 // frame, the wire is as it was.
 fn send_one(wire: &mut Wire, message: &Message) -> Result<u64, NoMemory>
     requires { IsFitToSend wire.old (message.now ∷ []) }
@@ -335,7 +335,7 @@ fn save(ledger: &mut LedgerLane, client: u32, request: Option<Message>)
     ledger.save(client, request);
 }
 
-// What is seen where one message was sent, under this number.
+// What is seen when one message was sent, under this number.
 fn one_sent(number: u64) -> Seen
     ensures { result ≡ record { first = number; sent = 1; lost = false; taken = None } }
 {
@@ -347,7 +347,7 @@ fn one_sent(number: u64) -> Seen
     }
 }
 
-// A client takes a message; where that answers its call, the record is accepted. Takes no memory.
+// A client takes a message; if that answers its call, the record is accepted. Takes no memory.
 fn take_message(ledger: &mut LedgerLane, session: &mut Session, message: Message) -> Taken
     ensures taken { result ≡ (session_accept session.old message.body).taken }
     ensures session { session.new ≡ (session_accept session.old message.body).session }
@@ -359,7 +359,7 @@ fn take_message(ledger: &mut LedgerLane, session: &mut Session, message: Message
     taken
 }
 
-// The place of the record that a reply tells.
+// The place of the record, as a reply gives it.
 fn place_in(body: &Body) -> Option<u64>
     ensures { result ≡ place_told body.now }
 {
@@ -369,7 +369,7 @@ fn place_in(body: &Body) -> Option<u64>
     }
 }
 
-// The record that a reply told is accepted, where the client took it for the answer to its call. Takes no memory.
+// The record at the place that a reply gave is accepted, if the client took the reply for the answer to its call. Takes no memory.
 fn accept_record(ledger: &mut LedgerLane, place: Option<u64>, taken: &Taken)
     ensures { ledger.new ≡ accepted_by ledger.old place taken.now }
 {
@@ -382,7 +382,7 @@ fn accept_record(ledger: &mut LedgerLane, place: Option<u64>, taken: &Taken)
     ledger.accept(place);
 }
 
-// What is seen where a client took a message.
+// What is seen when a client took a message.
 fn took(taken: Taken) -> Seen
     ensures { result ≡ record { first = 0; sent = 0; lost = false; taken = Some taken } }
 {

@@ -28,7 +28,7 @@ const MOST_BYTES: u64 = 0x4000_0000;
 /// From here on the records of a master have no room.
 const MOST_RECORDS: u64 = 0x4000_0000;
 
-/// A message reaches a master; one that has crashed loses it. What the master takes of it.
+/// A message reaches a master; if that has crashed, it is lost. What the master takes of it.
 pub(crate) fn tell_master(
     parts: &mut Parts,
     arrival: Arrival,
@@ -77,7 +77,7 @@ pub(crate) fn turn_at(parts: &mut Parts, master: u8) -> Result<Seen, StepError>
     settle(parts, master, 0, work, records)
 }
 
-/// Counts the bytes of all logs once a master has changed, whose log had so many before; and tells whether they and the
+/// Counts the bytes of all logs once a master has changed, whose log had so many before; and returns whether they and the
 /// master's records have room.
 pub(crate) fn weigh(parts: &mut Parts, master: u8, before: u64) -> bool
     requires there { IsMaster (length parts.old.masters.items) master }

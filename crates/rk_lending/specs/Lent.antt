@@ -8,7 +8,7 @@ use Rattle.rk_cluster.specs.Dealt.{IsEighth}
 use Rattle.rk_lending.specs.declared.lending.Kept.{Kept}
 use Rattle.rk_lending.specs.declared.lending.TheConstants.{REPLICAS}
 
--- nothing stands in it yet, and memory for so many things has been taken
+-- nothing is in it yet, and memory for so many things has been taken
 pub record IsRoomFor {X : Type 0} (count : ℕ) (things : Vec X) : Type 0 where
   pub nothing : things.items ≡ []
   pub room : count ≤ vec_capacity things

@@ -58,7 +58,7 @@ pub fn give_back<R: Replica + Drop>(cluster: Cluster<R>, kept: Kept<R>, replicas
     requires room { IsRoom kept replicas.old }
     ensures { AreGivenBack cluster.lanes kept.others.items replicas.new.items }
 {
-    // Asked how many masters and backups there are, a cluster tells that it has eight lanes, and in each as many backups.
+    // By the contracts of `masters` and `backups`, the cluster has eight lanes, and in each as many backups.
     let _masters = cluster.masters();
     let _backups = cluster.backups();
     let mut hands = hands_of(cluster.into_lanes(), kept.hands);
@@ -106,7 +106,7 @@ fn pass_first<T: Drop>(hand: &mut Vec<T>, things: &mut Vec<T>)
     }
 }
 
-// Puts things behind others, where there is room for them.
+// Puts things behind others, which have room for them.
 fn put_behind<T: Drop>(things: Vec<T>, all: &mut Vec<T>)
     requires { length all.old.items + length things.items ≤ vec_capacity all.old }
     ensures { all.new.items ≡ all.old.items ++ things.items }

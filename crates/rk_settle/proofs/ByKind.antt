@@ -1,4 +1,4 @@
--- Of a call or a log the kind of a message tells whether it is on the topic.
+-- Of a call or a log the kind of a message decides whether it is on the topic.
 use Rattle.std.proofs.Common.{◌≡◌, refl}
 use Rattle.rk_message.specs.declared.message.Body.{Body}
 use Rattle.rk_message.specs.declared.message.Body.TheVariants as bodies

@@ -1,4 +1,4 @@
--- What a task unfolds into names lanes and masters that are there, where the cluster does.
+-- What a task unfolds into names lanes and masters that are there, if the cluster does.
 use Rattle.rk_settle.proofs.Words.{◌≡◌, ℕ, ◌<◌, Bool, true, false, List, [], ◌∷◌, ◌++◌, filter, length, map, All, Option, None, Some}
 use Rattle.rk_settle.proofs.Words.{if◌then◌else◌, refl, arith, All-append, All-cons, All-nil, LANES, number_at, row_of, Phase, Moving}
 use Rattle.rk_settle.proofs.Words.{Opening, Row, Session, Cluster, lane_at, session_at, IsMaster, World, advance, is_number_off, sent_after}

@@ -42,7 +42,7 @@ coordinator_exchange lane topic = turn_exchange lane topic nodes.Coordinator
 abbrev pub log_round : ℕ → ℕ → List Task
 log_round lane master = round_of (turn_exchange lane topics.Log (nodes.Master master) ∷ [])
 
--- where the row does not move yet, the frozen source is asked once more what it hands over
+-- if the row does not move yet, the frozen source is asked once more what it hands over
 abbrev pub transfer_tasks : ℕ → ℕ → Bool → List Task
 transfer_tasks lane tablet opening = if opening then coordinator_exchange lane (topics.Handing tablet) ∷ [] else []
 
@@ -73,7 +73,7 @@ abbrev pub reach_row : ℕ → ℕ → Option Row → Reach → List Task
 reach_row lane tablet None reach = []
 reach_row lane tablet (Some row) reach = reach_phase lane tablet row.phase reach
 
--- what brings a migration to a reach, where it is short of it
+-- what brings a migration to a reach, if it is short of it
 abbrev pub reach_tasks : World → ℕ → ℕ → Reach → List Task
 reach_tasks w lane tablet reach =
     if is_short_of w tablet reach then reach_row lane tablet (row_of w.coordinator.rows tablet) reach else []

@@ -1,5 +1,5 @@
 -- The course of a settling command: its tasks are done move by move. A move makes one occurrence, or unfolds a task. The course stands
--- still once no task is left, and where the command stops: a lane is worn, or replicas have failed in too many rounds.
+-- still once no task is left, and when the command stops: a lane is worn, or replicas have failed in too many rounds.
 use Rattle.std.specs.Prelude.{ℕ, ◌+◌, ◌||◌, Bool, true, false, nat_le, if◌then◌else◌, fold, List, [], ◌∷◌, ◌++◌, Option, Some, None}
 use Rattle.rk_types.specs.declared.node.Said.{Said}
 use Rattle.rk_world.specs.Cluster.{Cluster, Occurrence}
@@ -40,7 +40,7 @@ course_of cluster tasks =
 abbrev pub with_tasks : Course → List Task → Course
 with_tasks course tasks = record course { tasks = tasks }
 
--- this came, where a replica failed or not, and these tasks are left; where a lane is worn all is left as it was
+-- this came, whether a replica failed or not, and these tasks are left; if a lane is worn, all is left as it was
 abbrev pub occurring_by : Course → Bool → List Task → Acted → Option ℕ → Course
 occurring_by course failed rest it None = record {
   cluster = it.cluster;
@@ -61,7 +61,7 @@ occurring course occurrences failed rest =
 abbrev pub is_at_limit : Course → Bool
 is_at_limit course = nat_le MOST_FAULTS course.faults
 
--- a round is over: it counts where a replica failed in it
+-- a round is over: it counts if a replica failed in it
 abbrev pub round_over : Course → List Task → Course
 round_over course rest =
     record course { tasks = rest; faults = course.faults + (if course.failing then 1 else 0); failing = false }

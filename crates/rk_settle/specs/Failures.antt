@@ -1,4 +1,4 @@
--- Why a settling command stops where a cluster answers so. No call of a command is refused by a code.
+-- Why a settling command stops when a cluster answers so. No call of a command is refused by a code.
 use Rattle.rk_cluster.specs.declared.error.ClusterError.{ClusterError}
 use Rattle.rk_cluster.specs.declared.error.ClusterError.TheVariants as causes
 use Rattle.rk_settle.specs.declared.error.SettleError.{SettleError}

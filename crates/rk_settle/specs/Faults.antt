@@ -29,11 +29,11 @@ FailsInRounds faults rounds old new = RoseInRounds rounds (counts_in faults old.
 abbrev pub HasFaults : {R : Type 0} → (R → ℕ) → ClusterState R → ClusterState R → SettleError → Type 0
 HasFaults faults old new error = IsOfReplicas error → FailsInRounds faults MOST_FAULTS old new
 
--- in how many rounds a replica failed, the one that runs among them
+-- in how many rounds a replica failed, the round that runs among them
 abbrev pub failed_rounds : Progress → ℕ
 failed_rounds progress = progress.faults + (if progress.failing then 1 else 0)
 
--- a move keeps up with the replicas: where these have failed, from a start on, as often as there were rounds in which one failed, so they
+-- a move keeps up with the replicas: if these have failed, from a start on, as often as there were rounds in which one failed, so they
 -- have after it
 abbrev pub KeepsUp : {R : Type 0} → (R → ℕ) → ClusterState R → ClusterState R → Progress → Progress → Type 0
 KeepsUp {R} faults old new was is =

@@ -49,7 +49,7 @@ AreNamed masters (Opening source sfrom target dfrom) = IsMaster masters source �
 AreNamed masters (Moving source sfrom target dfrom) = IsMaster masters source × IsMaster masters target
 AreNamed masters phase = ⊤
 
--- a task of a migration, or one that unfolds into nothing
+-- a task of a migration, or a task that unfolds into nothing
 abbrev pub IsMigrating : Task → Type 0
 IsMigrating (tasks.Exchanges lane topic act) = ⊥
 IsMigrating (tasks.Sorts lane topic from last) = ⊥
@@ -64,7 +64,7 @@ IsMigrating (tasks.Hears lane client times asked) = ⊥
 IsMigrating (tasks.Commits lane client asked) = ⊥
 IsMigrating task = ⊤
 
--- a task of serve, or of a migration, or one that unfolds into nothing
+-- a task of serve, or of a migration, or a task that unfolds into nothing
 abbrev pub IsServed : Task → Type 0
 IsServed (tasks.Exchanges lane topic act) = ⊥
 IsServed (tasks.Sorts lane topic from last) = ⊥

@@ -1,4 +1,4 @@
--- serve: the outstanding call of a client is brought on. Where the client does not know who owns its key, it asks; then it sends its
+-- serve: the outstanding call of a client is brought on. If the client does not know who owns its key, it asks; then it sends its
 -- request to that owner. After a Moved it tries once more. Last, log exchanges of the master that was asked run while the call is
 -- outstanding and staged there.
 use Rattle.std.specs.Prelude.{ℕ, ◌==◌, ◌&&◌, Bool, false, is_some, is_none, if◌then◌else◌, List, [], ◌∷◌, ◌++◌, Option, Some, None, unwrap_or}
@@ -19,7 +19,7 @@ use Rattle.rk_settle.specs.declared.topic.Topic.TheVariants as topics
 abbrev pub MOST_TRIES : ℕ
 MOST_TRIES = 2
 
--- the session of a client, where this is what is known of it
+-- the session of a client, if this is what is known of it
 abbrev pub session_of : ℕ → Option Session → Session
 session_of client known = unwrap_or known (new_session client)
 
@@ -27,12 +27,12 @@ session_of client known = unwrap_or known (new_session client)
 abbrev pub ask_exchange : ℕ → ℕ → Task
 ask_exchange lane client = tasks.Exchanges lane topics.Call (acts.Asks client)
 
--- a call is tried: first the owner is asked for, where the client's turn does that
+-- a call is tried: first the owner is asked for, if the client's turn does that
 abbrev pub try_tasks : Session → ℕ → ℕ → ℕ → List Task
 try_tasks session lane client times =
     (if looks_up session then ask_exchange lane client ∷ [] else []) ++ tasks.Requests lane client times ∷ []
 
--- the request is sent to the owner; where there is none the command ends
+-- the request is sent to the owner; if there is none, the command ends
 abbrev pub request_by : ℕ → ℕ → ℕ → Option ℕ → List Task
 request_by lane client times None = []
 request_by lane client times (Some owner) = ask_exchange lane client ∷ tasks.Hears lane client times owner ∷ []

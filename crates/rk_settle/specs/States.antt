@@ -26,7 +26,7 @@ pub record IsCourse {R : Type 0} (segments : R → Option Segments) (start : Clu
   pub faults : course.faults ≡ progress.faults
   pub failing : course.failing ≡ progress.failing
 
--- a move was made, by the fate of the call of a replica, if one was called; where that failed its count rose
+-- a move was made, by the fate of the call of a replica, if one was called; if that failed, the replica's count rose
 pub record Moves {R : Type 0} (segments : R → Option Segments) (faults : R → ℕ) (old new : ClusterState R) (before after : List Task) (was is : Progress) : Type 0 where
   pub fate : Fate
   pub counts : CountsGoOn faults (fate ∷ []) old new
@@ -42,7 +42,7 @@ pub record MovesAll {R : Type 0} (segments : R → Option Segments) (faults : R 
   pub moves : (start : Cluster) (had : List Said) (course : Course) → IsCourse segments start had old before was course
       → IsCourse segments start had new after is (moved_all course fates)
 
--- a command stops where it is, for this reason; nothing is said where memory was wanting
+-- a command stops where it is, for this reason; nothing is said if memory was wanting
 abbrev pub Stops : {R : Type 0} → (R → Option Segments) → ClusterState R → ClusterState R → List Task → Progress → SettleError → Type 0
 Stops segments old new left progress errors.NoMemory = ⊤
 Stops segments old new left progress error =
@@ -59,11 +59,11 @@ pub record StopsLater {R : Type 0} (segments : R → Option Segments) (faults : 
   pub counts : CountsGoOn faults [] now new
   pub stops : Stops segments now new left is error
 
--- in each cluster that one in code stands for, this is seen
+-- in each cluster that a cluster in code stands for, this is seen
 abbrev pub ClusterTells : {R T : Type 0} → (R → Option Segments) → ClusterState R → (Cluster → T) → T → Type 0
 ClusterTells segments state look seen = (cluster : Cluster) → IsOf segments state cluster → look cluster ≡ seen
 
--- so it is seen where a cluster has eight lanes
+-- so it is seen if that cluster has eight lanes
 abbrev pub EightTell : {R T : Type 0} → (R → Option Segments) → ClusterState R → (Cluster → T) → T → Type 0
 EightTell segments state look seen =
     (cluster : Cluster) → IsOf segments state cluster → length cluster.lanes ≡ LANES → look cluster ≡ seen

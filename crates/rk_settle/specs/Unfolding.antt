@@ -9,7 +9,7 @@ use Rattle.rk_settle.specs.Settle.{empty_tasks, notice_tasks, settling_tasks, tu
 use Rattle.rk_settle.specs.declared.task.Task.{Task}
 use Rattle.rk_settle.specs.declared.task.Task.TheVariants as tasks
 
--- what a task unfolds into; one that makes an occurrence, or begins or ends a round, into nothing
+-- what a task unfolds into; a task that makes an occurrence, or begins or ends a round, into nothing
 abbrev pub unfolded : Cluster → Task → List Task
 unfolded cluster (tasks.Exchanges lane topic act) = exchange_tasks (lane_at cluster lane).wire lane topic act
 unfolded cluster (tasks.Sorts lane topic from last) = sort_tasks (lane_at cluster lane).wire lane topic from last

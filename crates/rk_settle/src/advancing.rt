@@ -64,7 +64,7 @@ fn push_reaches(tasks: &mut Tasks, lane: u8, tablet: u32, reach: Reach) -> Resul
     tasks.push_all(&all[..count])
 }
 
-/// What brings a migration from the reach before to this one, where it is short of it. A step for each row.
+/// What brings a migration from the reach before to this one, if it is short of it. A step for each row.
 pub(crate) fn reach<R: Replica + Drop>(
     tasks: &mut Tasks,
     at: &Lane<R>,
@@ -135,7 +135,7 @@ fn push_reach(
     }
 }
 
-// The target is granted the tablet; where the row does not move yet, the source is asked first what it hands over.
+// The target is granted the tablet; if the row does not move yet, the source is asked first what it hands over.
 fn push_grant(tasks: &mut Tasks, lane: u8, tablet: u32, opening: bool) -> Result<(), NoMemory>
     ensures pushed { OnOk result (tasks.new ≡ (advance.transfer_tasks lane tablet opening
         ++ advance.grant_task lane tablet ∷ []) ++ tasks.old) }

@@ -30,8 +30,8 @@ pub fn serve_code<R: Replica + Drop>(cluster: &Cluster<R>, client: u32) -> Optio
 }
 
 /// Why the migration of a tablet cannot be brought to a reach, if it cannot: there is no such tablet, it migrates in no lane short
-/// of that reach, or where it does, its source or target has crashed. A step for each row of each lane, and for each master that has
-/// crashed there.
+/// of that reach, or in a lane where it does, its source or target has crashed. A step for each row of each lane, and for each master
+/// that has crashed there.
 pub fn advance_code<R: Replica + Drop>(
     cluster: &Cluster<R>,
     tablet: u32,
@@ -53,8 +53,8 @@ pub fn advance_code<R: Replica + Drop>(
     code_by(concerned, dead)
 }
 
-/// Why the target of a tablet cannot be sent what it wants first, if it cannot: there is no such tablet, it moves in no lane, or
-/// where it does, its source or target has crashed. A step for each row of each lane, and for each master that has crashed there.
+/// Why the target of a tablet cannot be sent what it wants first, if it cannot: there is no such tablet, it moves in no lane, or in a
+/// lane where it does, its source or target has crashed. A step for each row of each lane, and for each master that has crashed there.
 pub fn priority_code<R: Replica + Drop>(cluster: &Cluster<R>, tablet: u32) -> Option<Code>
     ensures { Tells R.segments cluster.now (λ c. codes.priority_code c tablet) result }
 {
@@ -72,7 +72,7 @@ pub fn priority_code<R: Replica + Drop>(cluster: &Cluster<R>, tablet: u32) -> Op
     code_by(concerned, dead)
 }
 
-// The code of a command that acts on a migration, where some lane is concerned or none, and a master of it there has crashed or not.
+// The code of a command that acts on a migration, by whether some lane is concerned, and whether a master of it there has crashed.
 fn code_by(concerned: bool, dead: bool) -> Option<Code>
     ensures { result ≡ first_code (code_where (not concerned) NotMigrating ∷ code_where dead Crashed ∷ []) }
 {

@@ -46,8 +46,8 @@ pub fn settle<R: Replica + Drop>(
     run(alloc, cluster, tasks, said)
 }
 
-/// The outstanding call of a client is brought on, up to its answer where it can be had: where the client does not know who
-/// owns the key, it asks; its request is delivered, once more after a Moved, and committed. A client without an outstanding call does
+/// The outstanding call of a client is brought on, up to its answer if it can be had: if the client does not know who owns
+/// the key, it asks; its request is delivered, once more after a Moved, and committed. A client without an outstanding call does
 /// nothing.
 pub fn serve<R: Replica + Drop>(
     alloc: Global,

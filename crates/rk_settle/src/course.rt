@@ -99,7 +99,7 @@ fn make_moves<R: Replica + Drop>(
     ensures counts { CountsGoOn R.faults [] cluster.old cluster.new }
     ensures cause { IfErr result (HasFaults R.faults cluster.old cluster.new) }
 {
-    // Asked how many masters there are, a cluster tells that it has eight lanes.
+    // By the contract of `masters`, the cluster has eight lanes.
     let _masters = cluster.masters();
     let mut tasks = tasks;
     for _ in 0..u64::MAX {
@@ -132,7 +132,7 @@ struct Handing {
     from: u64,
 }
 
-// The first task makes its move. Where it sorts messages of which none is to be forgotten, the next of them is handed out at once.
+// The first task makes its move. If it sorts messages of which none is to be forgotten, the next of them is handed out at once.
 fn perform<R: Replica + Drop>(
     cluster: &mut Cluster<R>,
     tasks: &mut Tasks,
@@ -158,7 +158,7 @@ fn perform<R: Replica + Drop>(
     }
 }
 
-// What a task that sorts messages hands out, where none of them is to be forgotten; none for other tasks. A search for each message.
+// What a task that sorts messages hands out, if none of them is to be forgotten; none for other tasks. A search for each message.
 fn handing_of<R: Replica + Drop>(cluster: &Cluster<R>, task: Task) -> Option<Handing>
     requires { IsTask (masters_of cluster.now) task }
     ensures there { IfSome result (λ it. it.lane < LANES) }
@@ -280,7 +280,7 @@ fn occur<R: Replica + Drop>(cluster: &mut Cluster<R>, lane: u8, act: Act) -> Res
     Ok(())
 }
 
-// The message of a number, if it is there and somebody takes it, is delivered; what its receiver says is told.
+// The message of a number, if it is there and somebody takes it, is delivered; what its receiver says is recorded.
 fn deliver<R: Replica + Drop>(
     cluster: &mut Cluster<R>,
     progress: &mut Progress,
@@ -332,7 +332,7 @@ fn begin(progress: &mut Progress) -> Result<(), SettleError>
     Ok(())
 }
 
-// A round is over: it counts where a replica failed in it.
+// A round is over: it counts if a replica failed in it.
 fn end(progress: &mut Progress)
     requires { progress.old.faults < 2 ^ 64 - 1 }
     ensures { progress.new ≡ (record progress.old { faults = progress.old.faults + (if progress.old.failing then 1 else 0); failing = false }) }

@@ -17,7 +17,7 @@ use rk_tablet_map::Phase;
 use rk_transfer::Role;
 use rk_types::{NoMemory, Node};
 
-/// The target of a tablet, where it moves, asks for what it wants first, and gets it. A step for each row.
+/// The target of a tablet, if that moves, asks for what it wants first, and gets it. A step for each row.
 pub(crate) fn hasten<R: Replica + Drop>(
     tasks: &mut Tasks,
     at: &Lane<R>,

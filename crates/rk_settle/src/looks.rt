@@ -35,7 +35,7 @@ pub fn row_at<R: Replica + Drop>(at: &Lane<R>, tablet: u32) -> Option<&Row>
     at.rows().row(tablet)
 }
 
-/// Whether a master lives. A step for each one that has crashed.
+/// Whether a master lives. A step for each master that has crashed.
 pub(crate) fn lives_at<R: Replica + Drop>(at: &Lane<R>, master: u8) -> bool
     ensures { LaneTells R.segments at.now (λ w. lives w master) result }
 {
@@ -82,7 +82,7 @@ pub(crate) fn staged_at<R: Replica + Drop>(at: &Lane<R>, master: u8, client: u32
     at.master(master).staged_call(client, seq)
 }
 
-/// The lowest master that has crashed and was not noticed, if there is one. A step for each master and each one that has
+/// The lowest master that has crashed and was not noticed, if there is one. A step for each master, and for each that has
 /// crashed.
 pub(crate) fn unnoticed<R: Replica + Drop>(at: &Lane<R>, masters: u8) -> Option<u8>
     requires { at.now.masters ≡ masters }
@@ -100,7 +100,7 @@ pub(crate) fn unnoticed<R: Replica + Drop>(at: &Lane<R>, masters: u8) -> Option<
     None
 }
 
-// Whether a master has crashed and was not noticed. A step for each one that has crashed.
+// Whether a master has crashed and was not noticed. A step for each master that has crashed.
 fn is_unnoticed<R: Replica + Drop>(at: &Lane<R>, master: u8) -> bool
     ensures { LaneTells R.segments at.now (λ w. is_unnoticed_lem w master) result }
 {

@@ -33,7 +33,7 @@ fn ask_exchange(lane: u8, client: u32) -> Task
     }
 }
 
-/// A call is tried: the owner is asked for, where the client's turn does that, and then the request is sent.
+/// A call is tried: the owner is asked for, if the client's turn does that, and then the request is sent.
 pub(crate) fn attempt(
     tasks: &mut Tasks,
     known: Option<&Session>,

@@ -16,7 +16,7 @@ pub(crate) enum Topic {
     Readiness(u32),
     /// The source of a tablet is told to close.
     Closing(u32),
-    /// The source of a tablet tells what it hands over.
+    /// The source of a tablet reports what it hands over.
     Handing(u32),
     /// The target of a tablet is granted it.
     Granting(u32),
@@ -29,7 +29,7 @@ pub(crate) enum Topic {
 }
 
 impl Topic {
-    /// Whether a message is on the topic, by what it says. Of a call or a log its kind tells, and its frame is not read.
+    /// Whether a message is on the topic, by what it says. Of a call or a log its kind decides, and its frame is not read.
     #[tactic(auto, using(crate::proofs::ByKind::call_by_kind, crate::proofs::ByKind::log_by_kind))]
     pub(crate) fn has(self, frame: &Frame) -> Result<bool, NoMemory>
         ensures { IfOk result (λ on. on ≡ is_on self frame.now.body) }

@@ -20,7 +20,7 @@ use rk_lane::Lane;
 use rk_outside::Replica;
 use rk_types::NoMemory;
 
-/// The tasks that a task unfolds into come before all others; none for one that makes an occurrence, or begins or ends a
+/// The tasks that a task unfolds into come before all others; none for a task that makes an occurrence, or begins or ends a
 /// round.
 pub(crate) fn unfold<R: Replica + Drop>(
     tasks: &mut Tasks,
@@ -147,7 +147,7 @@ fn settle<R: Replica + Drop>(tasks: &mut Tasks, cluster: &Cluster<R>) -> Result<
     if is_at_rest(cluster) {
         return Ok(());
     }
-    // Asked how many masters there are, a cluster tells that it has eight lanes.
+    // By the contract of `masters`, the cluster has eight lanes.
     let _masters = cluster.masters();
     settling::round(tasks)
 }
@@ -193,7 +193,7 @@ pub(crate) fn lane_of<R: Replica + Drop>(cluster: &Cluster<R>, lane: u8) -> &Lan
     ensures lane { IsLaneOf R.segments cluster.now lane result.now }
     ensures masters { result.now.masters ≡ masters_of cluster.now }
 {
-    // Asked how many masters there are, a cluster tells that there are eight lanes with so many each.
+    // By the contract of `masters`, there are eight lanes with so many each.
     let _masters = cluster.masters();
     &cluster.lanes()[lane as usize]
 }

@@ -18,8 +18,8 @@ use rk_types::Said;
 use rk_world::Event;
 
 impl<R: Replica + Drop> Cluster<R> {
-    /// A client sends its last request again, which is delivered at once and taken off the wire. Where the lane of the request
-    /// is spent the answer is `NoMemory`. A search for the client, and what the request takes in that lane.
+    /// A client sends its last request again, which is delivered at once and taken off the wire. If the lane of the request is
+    /// spent, the answer is `NoMemory`. A search for the client, and what the request takes in that lane.
     pub fn again(&mut self, client: u32) -> Result<Vec<Said>, ClusterError>
         ensures ok { IfOk result (λ said. IsCarriedOut R.segments self.old self.new
             (λ cluster. again_code cluster client) (λ cluster. again_makes cluster client) said.items) }
@@ -45,7 +45,7 @@ impl<R: Replica + Drop> Cluster<R> {
     }
 }
 
-// The last request of a client is sent again in a lane, where it gets this number, delivered and forgotten.
+// The last request of a client is sent again in a lane, under this number, delivered and forgotten.
 fn again_in<R: Replica + Drop>(
     lanes: &mut Vec<Lane<R>>,
     lane: u8,

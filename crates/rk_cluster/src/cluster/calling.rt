@@ -25,7 +25,7 @@ use std::collections::BTreeMap;
 const MOST_CALLS: u64 = 200_000;
 
 impl<R: Replica + Drop> Cluster<R> {
-    /// A client asks its next call, and sends it on its turn; now nothing is sent. Where lane 0 is spent the answer is
+    /// A client asks its next call, and sends it on its turn; now nothing is sent. If lane 0 is spent, the answer is
     /// `NoMemory`. A search for the client, a look at each row of lane 0 and at each session, and the room that an answer
     /// takes.
     pub fn call(
@@ -94,7 +94,7 @@ fn ask(session: &mut Session, table: u64, key: Key, op: Op) -> Result<(), NoMemo
     ensures err { OnErr result (session.new ≡ session.old) }
     ensures acts { (masters : ℕ) → MayAct masters session.old → MayAct masters session.new }
 {
-    // Bytes that are lent tell that they are within their limits.
+    // By the contracts of `bytes`, key and value are within their limits.
     let _ = key.bytes();
     shows_limits(&op);
     match session.ask(table, key, op) {
@@ -104,7 +104,7 @@ fn ask(session: &mut Session, table: u64, key: Key, op: Op) -> Result<(), NoMemo
     }
 }
 
-// The number and the value of an operation, if it has them, are within their limits, which shows where they are read.
+// The number and the value of an operation, if it has them, are within their limits: reading them shows it.
 fn shows_limits(op: &Op)
     ensures { IsLawfulOp op.now }
 {

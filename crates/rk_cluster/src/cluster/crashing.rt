@@ -25,8 +25,8 @@ use rk_types::{LANES, Said};
 use rk_world::Event;
 
 impl<R: Replica + Drop> Cluster<R> {
-    /// A master crashes in each lane. It is refused where no other one would be left alive in some lane. It takes no memory, and
-    /// comes where lanes are worn too. A look at each master in each lane.
+    /// A master crashes in each lane. It is refused if no other master would be left alive in some lane. It takes no memory, and
+    /// comes even if lanes are worn. A look at each master in each lane.
     pub fn crash(&mut self, master: u8) -> Result<Vec<Said>, ClusterError>
         ensures ok { IfOk result (λ said. IsCarriedOut R.segments self.old self.new
             (λ cluster. crash_code cluster master) (λ cluster. crash_makes cluster master) said.items) }
@@ -38,7 +38,7 @@ impl<R: Replica + Drop> Cluster<R> {
     {
         let alloc = self.alloc();
         let first = &self.lanes[0];
-        // A lane that is asked whether it is spent tells that its coordinator counts its masters.
+        // By the contract of `spent`, the lane's coordinator counts its masters.
         let _spent = first.spent();
         if master < 1 || master > self.masters {
             return Err(ClusterError::Code(Code::Unknown));

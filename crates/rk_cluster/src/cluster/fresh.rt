@@ -20,7 +20,7 @@ use std::alloc::Global;
 impl<R: Replica + Drop> Cluster<R> {
     /// A cluster of eight lanes where nothing has happened, with so many masters and backups each; no client has a session. The
     /// replicas are those of backup 1 in lanes 0 to 7, then those of backup 2, and so on: backup b of lane l has the one at
-    /// place 8 * (b - 1) + l, counted from 0. Where all of them tell that nothing was ever written, it is the new cluster.
+    /// place 8 * (b - 1) + l, counted from 0. If all of them report that nothing was ever written, it is the new cluster.
     pub fn with_replicas(
         alloc: Global,
         masters: u8,

@@ -49,7 +49,7 @@ fn are_quiet<R: Replica + Drop>(lanes: &[Lane<R>], masters: u8) -> bool
     true
 }
 
-// Whether a lane with so many masters is quiet, where it is not spent. A look at each row and each master.
+// Whether a lane with so many masters is quiet, if it is not spent. A look at each row and each master.
 fn is_quiet<R: Replica + Drop>(lane: &Lane<R>, masters: u8) -> bool
     requires { lane.now.masters ≡ masters }
     ensures { IfSome lane.now.running (λ running. result ≡ quiet.is_quiet_lane (world_with lane.now running [])) }
@@ -79,12 +79,12 @@ fn is_owned_live<R: Replica + Drop>(lane: &Lane<R>, phase: &Phase) -> bool
     }
 }
 
-// Whether nothing is staged at the masters that live of a lane with so many masters, where it is not spent.
+// Whether nothing is staged at the live masters of a lane with so many masters, if it is not spent.
 fn has_applied_all<R: Replica + Drop>(lane: &Lane<R>, masters: u8) -> bool
     requires { lane.now.masters ≡ masters }
     ensures { IfSome lane.now.running (λ running. result ≡ quiet.has_applied_all (world_with lane.now running [])) }
 {
-    // A lane that is asked whether it is spent tells that it has just these masters.
+    // By the contract of `spent`, the lane has just these masters.
     let _spent = lane.spent();
     for index in 0..masters {
         if !has_applied(lane, index + 1) {

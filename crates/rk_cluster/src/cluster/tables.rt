@@ -15,10 +15,10 @@ use rk_types::{Range, Said};
 use rk_world::Event;
 
 impl<R: Replica + Drop> Cluster<R> {
-    /// A table is made with one tablet, which has all its hashes and which a master owns, in each lane. `TooLate` comes where
-    /// a client has called, else `Taken` where the table is there, `Unknown` where the master is not, `Crashed` where it has
-    /// crashed, and `Limit` where there are eight tables or sixteen tablets. A step for each client and for each two rows,
-    /// and what the event takes in each lane.
+    /// A table is made with one tablet, which has all its hashes and which a master owns, in each lane. `TooLate` comes if a
+    /// client has called, else `Taken` if the table is there, `Unknown` if the master is not, `Crashed` if it has crashed, and
+    /// `Limit` if there are eight tables or sixteen tablets. A step for each client and for each two rows, and what the event
+    /// takes in each lane.
     pub fn add_table(&mut self, table: u64, master: u8) -> Result<Vec<Said>, ClusterError>
         requires { 1 ≤ table }
         ensures ok { IfOk result (λ said. IsCarriedOut R.segments self.old self.new
@@ -44,10 +44,10 @@ impl<R: Replica + Drop> Cluster<R> {
         Ok(nothing_said(alloc))
     }
 
-    /// A tablet begins to move to a master, in each lane where another one owns it. `Unknown` comes where the tablet or the
-    /// master is not there, else `NotOwned` where the tablet moves or is rebuilt in some lane, `OwnsAll` where the master owns
-    /// it in every lane, and `Crashed` where the master has crashed, or an owner in one of those lanes. A step for each row of
-    /// each lane, and what the event takes in those lanes.
+    /// A tablet begins to move to a master, in each lane where another master owns it. `Unknown` comes if the tablet or the
+    /// master is not there, else `NotOwned` if the tablet moves or is rebuilt in some lane, `OwnsAll` if the master owns it in
+    /// every lane, and `Crashed` if the master has crashed, or an owner in one of those lanes. A step for each row of each
+    /// lane, and what the event takes in those lanes.
     pub fn migrate(&mut self, tablet: u32, to: u8) -> Result<Vec<Said>, ClusterError>
         ensures ok { IfOk result (λ said. IsCarriedOut R.segments self.old self.new
             (λ cluster. migrate_code cluster tablet to) (λ cluster. migrate_makes cluster tablet to) said.items) }
@@ -64,9 +64,9 @@ impl<R: Replica + Drop> Cluster<R> {
     }
 
     /// A tablet is split at a hash, in each lane: the hashes from there on become a tablet of the next number. `Unknown`
-    /// comes where the tablet is not there, else `NotOwned` where it moves or is rebuilt in some lane, `Crashed` where an
-    /// owner of it has crashed, `Limit` where there are sixteen tablets, and `BadSplit` where a part would have no hash. A
-    /// step for each row of each lane, and what the event takes in each lane.
+    /// comes if the tablet is not there, else `NotOwned` if it moves or is rebuilt in some lane, `Crashed` if an owner of it
+    /// has crashed, `Limit` if there are sixteen tablets, and `BadSplit` if a part would have no hash. A step for each row of
+    /// each lane, and what the event takes in each lane.
     pub fn split(&mut self, tablet: u32, at: u64) -> Result<Vec<Said>, ClusterError>
         ensures ok { IfOk result (λ said. IsCarriedOut R.segments self.old self.new
             (λ cluster. split_code cluster tablet at) (λ cluster. split_makes cluster tablet at) said.items) }

@@ -44,9 +44,9 @@ impl<R: Replica + Drop> Cluster<R> {
         self.backups
     }
 
-    /// An event comes to a lane: one that calls no replica, so neither a delivery nor a crash, and that names a master only
-    /// where it is there. One that the lane refuses changes nothing; only a lane that is worn, or want of memory, is an error.
-    /// What the event takes in the lane.
+    /// An event comes to a lane. It calls no replica, so it is neither a delivery nor a crash, and it names only masters that
+    /// are there. If the lane refuses it, nothing changes; only a lane that is worn, or want of memory, is an error. What the
+    /// event takes in the lane.
     pub fn happen(&mut self, lane: u8, event: Event) -> Result<(), ClusterError>
         requires there { lane < LANES }
         requires plain { IsPlain event }
@@ -62,8 +62,8 @@ impl<R: Replica + Drop> Cluster<R> {
         act(&mut self.lanes, lane, event)
     }
 
-    /// The message of a number is lost in a lane, also in one that is worn. One that is not on the wire changes nothing. It takes no
-    /// memory. One search.
+    /// The message of a number is lost in a lane, even if that is worn. A message that is not on the wire changes nothing. It takes
+    /// no memory. One search.
     pub fn lose(&mut self, lane: u8, number: u64)
         requires { lane < LANES }
         ensures acts { ActsOne R.segments self.old self.new (Happens lane (events.Forget number) (Gave None)) [] None }
@@ -92,8 +92,8 @@ impl<R: Replica + Drop> Cluster<R> {
         live_in(self.alloc(), &self.lanes[lane as usize], self.masters)
     }
 
-    /// Whether no turn in a lane would leave anything, as far as a look tells: no call is outstanding there, and the lane rests. The time to
-    /// hash the key of each outstanding call, and what [`rk_lane::Lane::rests`] takes.
+    /// Whether no turn in a lane would leave anything, as far as a look shows: no call is outstanding there, and the lane rests. The time
+    /// to hash the key of each outstanding call, and what [`rk_lane::Lane::rests`] takes.
     pub fn rests_in(&self, lane: u8) -> bool
         requires { lane < LANES }
         ensures { result ≡ true → IsIdleIn R.segments self.now lane }
@@ -102,7 +102,7 @@ impl<R: Replica + Drop> Cluster<R> {
     }
 
     /// The nodes of a lane take their turns: the clients with an outstanding call there, by rising number, then the
-    /// coordinator, and then the masters that live, by rising number. It is never refused by a code; where the lane is worn, or
+    /// coordinator, and then the masters that live, by rising number. It is never refused by a code; if the lane is worn, or
     /// memory is wanting, the turns before that were taken. What each turn takes in the lane, and a step for each session.
     pub fn turn(&mut self, lane: u8) -> Result<Vec<Said>, ClusterError>
         requires { lane < LANES }

@@ -18,8 +18,8 @@ impl<R: Replica + Drop> Lane<R> {
     /// added or sends its request again, a master crashes or that is noticed. Each refusal but `NoMemory` leaves the lane as
     /// it was. After `NoMemory`, which never comes of Crash or Forget, the lane is spent; its journal, the calls that were
     /// asked and the clients that were added are as they were. A spent lane answers `NoMemory`, and to Crash and Forget that
-    /// nothing happened. The message was lost where its receiver had crashed, or where the replica failed that it called,
-    /// whose count of faults rose then. What the nodes take that work, and nothing that grows with the wire or the journal.
+    /// nothing happened. The message was lost if its receiver had crashed, or if the replica that it called failed, whose
+    /// count of faults rose then. What the nodes take that work, and nothing that grows with the wire or the journal.
     pub fn step(&mut self, event: Event) -> Result<Seen, StepError>
         requires { MayComeTo self.old event }
         ensures ok { IfSome self.old.running (λ _. IfOk result (IsStepOf R.segments R.faults event self.old self.new)) }
@@ -39,7 +39,7 @@ impl<R: Replica + Drop> Lane<R> {
     }
 
     /// A message that was looked up on the wire of the lane reaches its receiver: what [`Lane::step`] makes of Deliver, also of
-    /// what it refuses. `NoMessage` never comes, and `Address` comes where the message is for a client. A spent lane answers
+    /// what it refuses. `NoMessage` never comes, and `Address` comes if the message is for a client. A spent lane answers
     /// `NoMemory`. No search for the message, and what its receiver takes.
     pub fn deliver(&mut self, arrival: Arrival) -> Result<Seen, StepError>
         requires { IsArrivalIn self.old arrival }
@@ -58,8 +58,8 @@ impl<R: Replica + Drop> Lane<R> {
         answer
     }
 
-    /// The message of a number is lost: what [`Lane::step`] makes of Forget. One that is not on the wire is refused, and leaves the
-    /// lane as it was; of a spent lane nothing happens. `NoMemory` never comes. One search.
+    /// The message of a number is lost: what [`Lane::step`] makes of Forget. If it is not on the wire, this is refused, and leaves
+    /// the lane as it was; of a spent lane nothing happens. `NoMemory` never comes. One search.
     pub fn forget(&mut self, number: u64) -> Result<Seen, StepError>
         ensures ok { IfSome self.old.running (λ _. IfOk result (IsStepOf R.segments R.faults (events.Forget number) self.old self.new)) }
         ensures refused { IfErr result (IsRefused R.faults (events.Forget number) self.old self.new) }

@@ -36,7 +36,7 @@ impl<R: Replica + Drop> Lane<R> {
         ask(&mut self.parts, session)
     }
 
-    /// A client takes the message of a number: what [`Lane::take`] makes of it. `NoMessage` comes where it was never sent or is
+    /// A client takes the message of a number: what [`Lane::take`] makes of it. `NoMessage` comes if it was never sent or is
     /// forgotten. After an error, `NoMemory` too, lane and session are as they were. A spent lane answers `NoMemory`. A search for
     /// the message, the time to read it, and a few searches more.
     pub fn accept(&mut self, number: u64, session: &mut Session) -> Result<Seen, StepError>
@@ -56,9 +56,9 @@ impl<R: Replica + Drop> Lane<R> {
         accept(&mut self.parts, number, session)
     }
 
-    /// A client takes a message that was looked up on the wire of the lane. One whose call was not asked here ignores it; where
-    /// the message answers its call, the record is accepted. `Address` comes where the message is for another node, and
-    /// `Stranger` where the client was not added; a spent lane answers `NoMemory`. After an error lane and session are as they
+    /// A client takes a message that was looked up on the wire of the lane. A client whose call was not asked here ignores it;
+    /// if the message answers its call, the record is accepted. `Address` comes if the message is for another node, and
+    /// `Stranger` if the client was not added; a spent lane answers `NoMemory`. After an error lane and session are as they
     /// were. A few searches, and none for the message.
     pub fn take(&mut self, arrival: Arrival, session: &mut Session) -> Result<Seen, StepError>
         requires arrives { IsArrivalIn self.old arrival }
