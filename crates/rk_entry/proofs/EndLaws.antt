@@ -1,4 +1,4 @@
--- A range or an end that is read is spelled so, and one that is spelled so is read.
+-- A range or an end that is read is spelled so, and a range or an end that is spelled so is read.
 use Rattle.std.proofs.Common.{◌≡◌, ℕ, ◌^◌, ◌<◌, Bool, true, false, cond, ltb, leb, eqb, List, ◌++◌, Ok, Err, refl, sym, ap, subst, append_assoc, arith, inl, inr}
 use Rattle.std.specs.Prelude.{◌⊎◌}
 use Rattle.std.specs.Int.{w8, w32, w64}

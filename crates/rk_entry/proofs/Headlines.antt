@@ -21,6 +21,6 @@ pub round_trip_of_all : (entries : List Entry) (rest : List ℕ) → AllByRecurs
     → entries_of (spelled_all entries ++ rest) ≡ entries ++ entries_of rest
 round_trip_of_all = Rattle.rk_entry.proofs.StandLaws.all_again
 
--- The length that an item tells is that of its entry.
+-- The length that an item gives is that of its entry.
 pub item_length : (held : Held) → spelled_of held ≡ length (spelled (Entry.Held held))
 item_length = Rattle.rk_entry.proofs.Sizes.held_spelled

@@ -1,4 +1,4 @@
--- What reading answers where a text stands that is read as one thing, whatever follows it.
+-- What reading answers at a text that is read as one thing, whatever follows it.
 use Rattle.std.proofs.Common.{◌≡◌, ℕ, ◌-◌, List, ◌++◌, length, Result, Ok, Err, arith, length-append}
 use Rattle.rk_entry.specs.declared.error.DecodeError.{DecodeError}
 use Rattle.rk_entry.specs.Steps.{Fails, Gives}

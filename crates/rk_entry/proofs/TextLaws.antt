@@ -1,4 +1,4 @@
--- A key or a value that is read is spelled so, and one that is spelled so is read.
+-- A key or a value that is read is spelled so, and a key or a value that is spelled so is read.
 use Rattle.std.proofs.Common.{◌≡◌, ℕ, ◌^◌, ◌<◌, ◌≤◌, Bool, true, false, cond, ltb, List, ◌++◌, length, take, drop, Option, Some, None, Result, Ok, Err, refl, sym, ap, subst, ◌∙◌, arith, length-append}
 use Rattle.std.specs.Prelude.{◌||◌, not, is_some}
 use Rattle.std.specs.Int.{w8, w32, is_in_range}

@@ -37,7 +37,7 @@ outcome_bytes (Deleted version) = number_bytes w8 DELETED ++ number_bytes w64 ve
 outcome_bytes Absent = number_bytes w8 ABSENT ++ number_bytes w64 0
 outcome_bytes (Mismatch version) = number_bytes w8 MISMATCH ++ number_bytes w64 version
 
--- a version that was made is at least 1, and one that was met may be 0
+-- a version that was made is at least 1, and a version that was met may be 0
 abbrev pub IsLawfulOutcome : End → Type 0
 IsLawfulOutcome (Written version) = IsNumber w64 1 version
 IsLawfulOutcome (Deleted version) = IsNumber w64 1 version

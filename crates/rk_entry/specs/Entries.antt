@@ -1,4 +1,4 @@
--- Entries that stand one after the other at the front of bytes.
+-- Entries that follow one another at the front of bytes.
 use Rattle.std.specs.Prelude.{◌≡◌, ℕ, zero, suc, List, [], ◌∷◌, ◌++◌, length, drop, Result, Ok, Err}
 use Rattle.std.specs.List.{AllByRecursion, flat_map}
 use Rattle.rk_entry.specs.declared.error.DecodeError.{DecodeError}
@@ -21,7 +21,7 @@ spelled_all entries = flat_map spelled entries
 abbrev pub StandsNone : List ℕ → Type 0
 StandsNone bytes = (entry : Entry) (after : List ℕ) → IsLawfulEntry entry → bytes ≡ spelled entry ++ after → ⊥
 
--- these entries stand one after the other at the front of the bytes, and none stands at the rest
+-- these entries follow one another at the front of the bytes, and none is at the front of the rest
 pub record Stand (bytes : List ℕ) (entries : List Entry) (rest : List ℕ) : Type 0 where
   pub each : AllByRecursion IsLawfulEntry entries
   pub bytes_are : bytes ≡ spelled_all entries ++ rest

@@ -1,4 +1,4 @@
--- Which entries may stand in a log.
+-- Which entries may be in a log.
 use Rattle.std.specs.Prelude.{◌≡◌, ◌≤◌, ◌+◌, ◌*◌, length, IsTrue, nat_eq, IfSome, None}
 use Rattle.std.specs.List.{AllByRecursion, IsDistinct}
 use Rattle.std.specs.Int.{w32, w64}
@@ -49,7 +49,7 @@ pub record IsLawfulJoined (joined : Joined) : Type 0 where
   pub each : AllByRecursion (IsNumber w32 FIRST_SIDE_SEGMENT) joined.segments
   pub distinct : IsDistinct nat_eq joined.segments
 
--- an entry that may stand in a log
+-- an entry that may be in a log
 abbrev pub IsLawfulEntry : Entry → Type 0
 IsLawfulEntry (entries.Held held) = IsLawfulHeld held
 IsLawfulEntry (entries.Refused refused) = IsLawfulRefused refused

@@ -25,7 +25,7 @@ read_ends (suc count) above before bytes = do
 unfoldable pub segments_bytes : List ℕ → List ℕ
 segments_bytes segments = flat_map (number_bytes w32) segments
 
--- whether the number stands in the list
+-- whether the number is in the list
 abbrev pub is_among : ℕ → List ℕ → Bool
 is_among number numbers = list_any (λ n. n == number) numbers
 

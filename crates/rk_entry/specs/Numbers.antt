@@ -33,7 +33,7 @@ read_from w least bytes = do
 abbrev pub HasRoom : Vec ℕ → ℕ → Type 0
 HasRoom bytes count = vec_len bytes + count ≤ vec_capacity bytes
 
--- this many bytes more stand at the end, in memory that was taken before
+-- this many more bytes are at the end, in memory that was taken before
 pub record Gains (old new : Vec ℕ) (more : List ℕ) (count : ℕ) : Type 0 where
   pub bytes : new.items ≡ old.items ++ more
   pub longer : vec_len new ≡ vec_len old + count

@@ -35,7 +35,7 @@ read_body_length kind bytes = do
   count ← read_number w32 bytes
   unless (not (is_body_length kind count.0)) BAD_BODY_LENGTH count
 
--- what was read, where the body has this many bytes, as the last length or count within it says
+-- what was read, if the body has this many bytes, as the last length or count within it says
 abbrev pub where_body_is : {A : Type 0} → ℕ → ℕ → A → Result A DecodeError
 where_body_is count body read = unless (not (body == count)) BAD_BODY_LENGTH read
 
@@ -160,7 +160,7 @@ read_fields kinds.Carried body bytes = read_carried body bytes
 read_fields kinds.Joined body bytes = read_joined body bytes
 read_fields kinds.LongObject body bytes = read_object true body bytes
 
--- the mark of an entry of this kind that begins with these bytes, where it has one, and the bytes after it
+-- the mark of an entry of this kind that begins with these bytes, if it has one, and the bytes after it
 unfoldable pub read_mark : Kind → List ℕ → List ℕ → Result (List ℕ) DecodeError
 read_mark kind front bytes =
     if is_marked kind

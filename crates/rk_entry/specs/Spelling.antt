@@ -29,7 +29,7 @@ held_head held = record { table = held.table; version = held.version; client = h
 abbrev pub refused_head : Refused → Head
 refused_head refused = record { table = refused.table; version = refused.found; client = refused.client; seq = refused.seq }
 
--- the value of an item, where it has one
+-- the value of an item, if it has one
 abbrev pub item_value_bytes : Option (List ℕ) → List ℕ
 item_value_bytes None = []
 item_value_bytes (Some value) = value_bytes value
@@ -73,7 +73,7 @@ mark_count kind = if is_marked kind then MARK_BYTES else 0
 unfoldable pub mark_of : List ℕ → ℕ
 mark_of bytes = sum bytes % 256
 
--- what stands at the end of an entry of this kind, after all its other bytes
+-- what is at the end of an entry of this kind, after all its other bytes
 abbrev pub mark_bytes : Kind → List ℕ → List ℕ
 mark_bytes kind front = if is_marked kind then number_bytes w8 (mark_of front) else []
 

@@ -22,7 +22,7 @@ pub enum Entry {
 #[derive(Drop, PartialEq, Eq)]
 pub struct Refused {
     pub table: u64,
-    /// The version that the conditional put met, 0 where there was no record, and 0 for a removal.
+    /// The version that the conditional put met, 0 if there was no record, and 0 for a removal.
     pub found: u64,
     pub client: u32,
     pub seq: u64,

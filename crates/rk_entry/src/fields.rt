@@ -1,8 +1,8 @@
 //! The fields that entries are made of, one reader and one writer each.
 //!
-//! A reader takes a field from the front of some bytes and lends the bytes after it. It answers `Cut` where the bytes
-//! end before the field is whole, and `Bad` where the field is whole and unlawful. A writer puts a field at the end of
-//! bytes that have room for it, which takes no memory.
+//! A reader takes a field from the front of some bytes and lends the bytes after it. It answers `Cut` if the bytes end
+//! before the field is whole, and `Bad` if the field is whole and unlawful. A writer puts a field at the end of bytes
+//! that have room for it, which takes no memory.
 
 pub use ends::{put_end, put_outcome, put_range, read_end, read_outcome, read_range};
 pub use numbers::{

@@ -7,7 +7,7 @@ use rk_types::{LONGEST_KEY, LONGEST_SHORT_VALUE, LONGEST_VALUE};
 /// Bytes of an entry before its body: the kind, and the length of the body.
 pub const HEAD_BYTES: u32 = 1 + 4;
 
-/// The most bytes of a body, so that four bytes tell the length of an entry.
+/// The most bytes of a body, so that four bytes hold the length of an entry.
 pub const LONGEST_BODY: u32 = u32::MAX - HEAD_BYTES;
 
 /// Bytes of the body of a tombstone but for its key: the table, the version, the client, the seq and the length of the
@@ -31,7 +31,7 @@ pub const CARRIED_BYTES: u32 = 3 * 8 + 8 + 8 + 2;
 /// Bytes of the end of a call: the client, the seq, the tag and the version.
 pub const END_BYTES: u32 = 4 + 8 + 1 + 8;
 
-/// The most ends of a Carried, as many as its count can tell.
+/// The most ends of a Carried, as many as its count can state.
 pub const MOST_ENDS: u32 = u16::MAX as u32;
 
 /// Bytes of the body of a Joined but for its segments: the range, the term and the count of segments.
@@ -65,7 +65,7 @@ impl Kind {
         self as u8
     }
 
-    /// The kind with this number, where there is one.
+    /// The kind with this number, if there is one.
     pub fn numbered(number: u8) -> Option<Kind>
         ensures { result ≡ kind_numbered number }
     {

@@ -1,12 +1,12 @@
 //! The entries of a log, and the one spelling that each of them has.
 //!
-//! It stands on `rk_types` and `byteorder`. What it promises: [`encode`] writes the spelling of an entry; [`decode`]
-//! reads an entry exactly where its spelling begins the bytes, whatever follows, and else names the first fault from
-//! the left; no spelling begins another; [`entries`] reads the entries that stand one after the other. The readers and
+//! It builds on `rk_types` and `byteorder`. What it promises: [`encode`] writes the spelling of an entry; [`decode`]
+//! reads an entry exactly when its spelling begins the bytes, whatever follows, and otherwise names the first fault
+//! from the left; no spelling begins another; [`entries`] reads the entries that follow one another. The readers and
 //! writers of single fields in [`fields`] serve other formats that are made of the same fields.
 //!
-//! The laws stand in `proofs/Headlines.antt`: each entry has one spelling, what is spelled is read again, and an item
-//! tells the length of its entry.
+//! The laws are in `proofs/Headlines.antt`: each entry has one spelling, what is spelled is read again, and an item
+//! gives the length of its entry.
 #![tactic(auto)]
 
 pub use entry::{Carried, Entry, Joined, Refused};

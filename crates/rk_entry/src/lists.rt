@@ -70,8 +70,8 @@ fn read_segment<'a>(
     Ok((segment, rest))
 }
 
-// Whether the number stands among those before. One that is above the greatest of them, as those of a log are, needs
-// no search.
+// Whether the number is among those before. A number above the greatest of them, as those of a log are, needs no
+// search.
 fn is_repeat(before: &[u32], greatest: u32, segment: u32) -> bool
     requires { AllByRecursion (λ number. number ≤ greatest) before.now }
     ensures { result ≡ is_among segment before.now }

@@ -191,7 +191,7 @@ fn read_fields(
     }
 }
 
-// The mark after the bytes `front` of an entry of this kind, where it has one.
+// The mark after the bytes `front` of an entry of this kind, if it has one.
 #[tactic(auto, unfolding(crate::specs::Reading::read_mark))]
 fn read_mark<'a>(kind: Kind, front: &[u8], bytes: &'a [u8]) -> Result<&'a [u8], DecodeError>
     ensures { Gives (λ rest. rest.now) result (read_mark kind front.now bytes.now) }
@@ -219,8 +219,8 @@ fn read_entry(alloc: Global, bytes: &[u8]) -> Result<(Entry, &[u8]), DecodeError
     Ok((entry, rest))
 }
 
-/// The entry whose spelling begins the bytes, and how many bytes it takes; any bytes may follow. `Cut` comes where the
-/// bytes end before the field that is being read is whole and every field before it is lawful, `Bad` where a field is
+/// The entry whose spelling begins the bytes, and how many bytes it takes; any bytes may follow. `Cut` comes if the
+/// bytes end before the field that is being read is whole and every field before it is lawful, `Bad` if a field is
 /// whole and unlawful with those before it.
 pub fn decode(alloc: Global, bytes: &[u8]) -> Result<(Entry, usize), DecodeError>
     // What is read is spelled so.

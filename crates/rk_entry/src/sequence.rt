@@ -10,8 +10,8 @@ use crate::reading::decode;
 use rk_types::NoMemory;
 use std::alloc::Global;
 
-/// The entries that stand one after the other at the front of the bytes, up to the first place where no whole entry
-/// stands, and how many bytes they take.
+/// The entries that follow one another at the front of the bytes, up to the first place where there is no whole entry,
+/// and how many bytes they take.
 pub fn entries(alloc: Global, bytes: &[u8]) -> Result<(Vec<Entry>, usize), NoMemory>
     ensures stand { IfOk result (λ x. Stand bytes.now x.0.items (drop x.1 bytes.now)) }
     ensures count { IfOk result (λ x. x.1 ≡ length (spelled_all x.0.items)) }
@@ -26,7 +26,7 @@ pub fn entries(alloc: Global, bytes: &[u8]) -> Result<(Vec<Entry>, usize), NoMem
     Ok((entries, taken))
 }
 
-// The entry at the front of the bytes, where one stands there, and how many bytes it takes.
+// The entry at the front of the bytes, if there is one, and how many bytes it takes.
 fn first_entry(alloc: Global, bytes: &[u8]) -> Result<Option<(Entry, usize)>, NoMemory>
     ensures found { IfOk result (λ first. IfSome first (λ x. StandsFirst bytes.now x.0 x.1)) }
     ensures exact { IfOk result (λ first. option_map (λ x. (x.0, drop x.1 bytes.now)) first ≡ result_ok (read_entry bytes.now)) }

@@ -15,7 +15,7 @@ use crate::lists::{put_ends, put_segments};
 use crate::mark::mark_of;
 use rk_types::{Held, NoMemory, Value};
 
-// Puts the value of an item at the end, where it has one.
+// Puts the value of an item at the end, if it has one.
 fn put_item_value(into: &mut Vec<u8>, value: &Option<Value>)
     requires { HasRoom into.old (value_count value.now) }
     ensures { Gains into.old into.new (item_value_bytes value.now) (value_count value.now) }

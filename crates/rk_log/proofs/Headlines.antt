@@ -19,7 +19,7 @@ use Rattle.rk_log.proofs.Cuts.{length-ends}
 use Rattle.rk_log.proofs.KnownLaws.{told_length, told_other}
 use Rattle.rk_log.proofs.CutLaws.{cut_again, written_all}
 
--- Every backup is known to hold each committed entry; and where every backup is known to hold so many entries, counted
+-- Every backup is known to hold each committed entry; and if every backup is known to hold so many entries, counted
 -- from the first, at least as many are committed.
 pub committed_is_held_by_all : (log : Log) (place backup : ℕ) → place < committed log → IsBackup log backup → HoldsEntry log backup place
 committed_is_held_by_all = Rattle.rk_log.proofs.LogLaws.committed_held
@@ -43,7 +43,7 @@ held_by_all_is_committed log count le holds =
         let same : known_of log (k + 1) ≡ get_or log.known k none = ap (λ (n : ℕ). get_or log.known n nothing) place_is ∙ get_or_default log.known k nothing none l in
         le-leb _ _ (omega (arith, own, ap (λ (known : Known). known_length known (get_or (ends log.entries) place d).segment) same))
 
--- What is committed stays committed, whatever is put behind it, stands beside it, or is told.
+-- What is committed stays committed, whatever is put behind it, put beside it, or reported.
 pub committed_stays_with_an_entry : (log : Log) (entry : Entry) → committed log ≤ committed (with_entry log entry)
 committed_stays_with_an_entry = Rattle.rk_log.proofs.LogLaws.committed_entry
 
@@ -53,7 +53,7 @@ committed_stays_with_a_side_segment log bytes = refl
 pub committed_stays_when_told : (log : Log) (backup segment told : ℕ) → committed log ≤ committed (with_told log backup segment told)
 committed_stays_when_told = Rattle.rk_log.proofs.LogLaws.committed_told
 
--- What a backup tells of a segment lowers no known length, and raises none but that of this segment at this backup.
+-- What a backup reports of a segment lowers no known length, and raises none but that of this segment at this backup.
 pub known_lengths_never_fall : (log : Log) (backup segment told : ℕ) → IsBackup log backup
     → known_length (known_of (with_told log backup segment told) backup) segment ≡ max (known_length (known_of log backup) segment) told
 known_lengths_never_fall log backup segment size numbered = grind (arith, told_length, get_or-set_same)

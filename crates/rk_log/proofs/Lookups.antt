@@ -1,4 +1,4 @@
--- What contracts see of a log, by the parts that stand for it.
+-- What contracts see of a log, by the parts that represent it.
 use Rattle.std.proofs.Common.{◌≡◌, ℕ, zero, suc, ◌+◌, ◌-◌, ◌<◌, ◌≤◌, Bool, true, false, cond, not, leb, ltb, eqb, List, [], ◌∷◌, ◌++◌, ◌⊎◌, length, get_or, set, take, drop, Option, Some, None, refl, ap, ◌∙◌, ⊎_elim, inl, inr, arith, length-set, get_or-set_same, get_or-set_other}
 use Rattle.std.specs.Prelude.{slice_get}
 use Rattle.std.specs.List.{find, list_all, prefix_len}

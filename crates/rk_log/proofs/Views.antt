@@ -1,4 +1,4 @@
--- What is told of a log, by the parts that stand for it.
+-- What a log reports, by the parts that represent it.
 use Rattle.std.proofs.Common.{◌≡◌, ℕ, zero, suc, ◌+◌, ◌-◌, ◌<◌, ◌≤◌, Bool, false, not, leb, List, [], ◌∷◌, ◌++◌, length, get_or, set, take, drop, map, replicate, Option, Some, None, Result, refl, sym, ap, subst, ◌∙◌, ⊎_elim, arith}
 use Rattle.std.specs.Prelude.{slice_get, OnOk, is_ok}
 use Rattle.std.specs.Bool.{OnTrue}

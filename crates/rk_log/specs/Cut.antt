@@ -10,7 +10,7 @@ use Rattle.rk_log.specs.declared.ends.EntryEnd.{EntryEnd}
 abbrev pub EachFits : List Entry → Type 0
 EachFits entries = All (λ entry. length (spelled entry) ≤ SEGMENT_BYTES) entries
 
--- the bytes of the last segment, none where there is no segment
+-- the bytes of the last segment, none if there is no segment
 abbrev pub last_of : List (List ℕ) → List ℕ
 last_of segments = slice_index_or segments (length segments - 1) []
 
@@ -22,7 +22,7 @@ has_room segments bytes = nat_lt 0 (length segments) && nat_le (length (last_of 
 abbrev pub in_last : List (List ℕ) → List ℕ → List (List ℕ)
 in_last segments bytes = slice_set segments (length segments - 1) (last_of segments ++ bytes)
 
--- the segments with these bytes in the last one where they fit, and else in one more
+-- the segments with these bytes in the last one if they fit, and otherwise in one more
 abbrev pub with_bytes : List (List ℕ) → List ℕ → List (List ℕ)
 with_bytes segments bytes = if has_room segments bytes then in_last segments bytes else segments ++ bytes ∷ []
 
@@ -31,7 +31,7 @@ abbrev pub cut_after : List (List ℕ) → List Entry → List (List ℕ)
 cut_after segments [] = segments
 cut_after segments (entry ∷ entries) = cut_after (with_bytes segments (spelled entry)) entries
 
--- the main segments of a log: each entry goes into the last segment where it fits, and else begins the next one
+-- the main segments of a log: each entry goes into the last segment if it fits, and otherwise begins the next one
 abbrev pub cut : List Entry → List (List ℕ)
 cut entries = cut_after [] entries
 

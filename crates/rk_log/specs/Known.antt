@@ -4,7 +4,7 @@ use Rattle.rk_types.specs.NumberMap.{NumberMap, get_or, insert}
 use Rattle.rk_segment.specs.Segment.{NumberedBytes}
 use Rattle.rk_log.specs.declared.ends.EntryEnd.{EntryEnd}
 
--- the known length of each segment, in bytes, where any bytes are known to be held
+-- the known length, in bytes, of each segment of which any bytes are known to be held
 abbrev pub Known : Type 0
 Known = NumberMap ℕ
 
@@ -16,7 +16,7 @@ nothing = []
 abbrev pub known_length : Known → ℕ → ℕ
 known_length known segment = get_or 0 known segment
 
--- what is known once the backup told that it holds so many bytes of a segment: the greater length stays
+-- what is known once the backup reported that it holds so many bytes of a segment: the greater length stays
 abbrev pub told : Known → ℕ → ℕ → Known
 told known segment size = if nat_lt (known_length known segment) size then insert known segment size else known
 

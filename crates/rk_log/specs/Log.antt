@@ -40,11 +40,11 @@ side_segments log = numbered FIRST_SIDE_SEGMENT log.sides
 abbrev pub segments : Log → List NumberedBytes
 segments log = numbered 1 (cut log.entries) ++ side_segments log
 
--- the segment of this number, where there is one
+-- the segment of this number, if there is one
 abbrev pub segment_of : ℕ → List NumberedBytes → Option NumberedBytes
 segment_of number segments = find (λ segment. segment.number == number) segments
 
--- the bytes of the segment of this number, none where there is none
+-- the bytes of the segment of this number, none if there is no such segment
 abbrev pub bytes_of : Log → ℕ → List ℕ
 bytes_of log number = option_map_or (λ segment. segment.bytes) (segment_of number (segments log)) []
 
@@ -73,12 +73,12 @@ pub record IsBackup (log : Log) (backup : ℕ) : Type 0 where
 abbrev pub known_of : Log → ℕ → Known
 known_of log backup = slice_index_or log.known (backup - 1) nothing
 
--- the log once a backup told that it holds so many bytes of a segment
+-- the log once a backup reported that it holds so many bytes of a segment
 abbrev pub with_told : Log → ℕ → ℕ → ℕ → Log
 with_told log backup segment size =
     record log { known = slice_set log.known (backup - 1) (told (known_of log backup) segment size) }
 
--- why a backup cannot hold so many bytes of a segment, where it has fewer
+-- why a backup cannot hold so many bytes of a segment, if the segment has fewer
 abbrev pub overreach : Log → ℕ → ℕ → Option Overreach
 overreach log segment size =
     if nat_lt (length (bytes_of log segment)) size
@@ -93,7 +93,7 @@ is_held known end = list_all (λ backup. reaches backup end) known
 abbrev pub committed : Log → ℕ
 committed log = prefix_len (is_held log.known) (ends log.entries)
 
--- a backup is known to hold the entry at a place: the segment that it stands in, up to the end of the entry
+-- a backup is known to hold the entry at a place: the segment that it is in, up to the end of the entry
 abbrev pub HoldsEntry : Log → ℕ → ℕ → Type 0
 HoldsEntry log backup place = IfSome (slice_get (ends log.entries) place) (λ end. end.offset ≤ known_length (known_of log backup) end.segment)
 
@@ -108,7 +108,7 @@ abbrev pub pending : Log → ℕ → Option PlacedBytes
 pending log backup =
     option_map (missing (known_of log backup)) (find (λ segment. not (is_whole (known_of log backup) segment)) (segments log))
 
--- whether every backup is known to hold all of the side segment of this number, where there is one
+-- whether there is a side segment of this number, and every backup is known to hold all of it
 abbrev pub is_side_stored : Log → ℕ → Bool
 is_side_stored log number =
     option_map_or (λ segment. list_all (λ known. is_whole known segment) log.known) (segment_of number (side_segments log)) false

@@ -1,4 +1,4 @@
--- How the parts of a log's struct stand for it.
+-- How the parts of a log's struct represent it.
 use Rattle.std.specs.Prelude.{◌≡◌, ℕ, suc, ◌+◌, ◌-◌, ◌<◌, ◌≤◌, ◌^◌, Bool, true, nat_lt, nat_le, max, min, if◌then◌else◌, List, [], ◌∷◌, length, map, take, drop, replicate, slice_get, slice_index, slice_index_or, slice_set, Option, None}
 use Rattle.std.specs.List.{AllByRecursion, list_all, prefix_len, range_with_len}
 use Rattle.std.specs.Option.{option_map, option_map_or, option_or}
@@ -32,16 +32,16 @@ none_known = replicate MOST_BACKUPS 0
 abbrev pub copied_of : ℕ → ℕ → List Copied → Option Copied
 copied_of first number segments = if nat_lt number first then None else slice_get segments (number - first)
 
--- the bytes of the segment of this number, none where it is among neither
+-- the bytes of the segment of this number, none if it is among neither
 abbrev pub bytes_among : ℕ → List Copied → List Copied → List ℕ
 bytes_among number main sides =
     option_map_or (λ copied. copied.segment.bytes) (option_or (copied_of FIRST_SEGMENT number main) (copied_of FIRST_SIDE_SEGMENT number sides)) []
 
--- the known lengths of a segment once a backup told that it holds so much of it; backups count from 0 here
+-- the known lengths of a segment once a backup reported that it holds so much of it; backups count from 0 here
 abbrev pub with_told_length : ℕ → ℕ → List ℕ → List ℕ
 with_told_length backup size lengths = slice_set lengths backup (max (slice_index lengths backup) size)
 
--- the known lengths once a backup told that it holds so much of the segment of this number, where it is among them
+-- the known lengths once a backup reported that it holds so much of the segment of this number, if it is among them
 abbrev pub with_length : ℕ → ℕ → ℕ → ℕ → List (List ℕ) → List (List ℕ)
 with_length first number backup size lengths =
     if nat_lt number first
@@ -82,7 +82,7 @@ parts_of log =
       cursors = log.cursors.items;
     }
 
--- the log that these parts stand for
+-- the log that these parts represent
 abbrev pub log_of : Parts → Log
 log_of parts =
     record {
@@ -119,11 +119,11 @@ piece_at backup number copied =
     let at = slice_index copied.known backup in
     record { segment = number; at = at; bytes = drop at copied.segment.bytes }
 
--- the missing bytes of the segment at this place, where there is one
+-- the missing bytes of the segment at this place, if there is one
 abbrev pub lacking_at : ℕ → ℕ → List Copied → ℕ → Option PlacedBytes
 lacking_at backup first segments at = option_map (piece_at backup (first + at)) (slice_get segments at)
 
--- a backup is known to hold the segments whole that its cursor tells
+-- a backup is known to hold whole the segments that its cursor counts
 pub record IsCursor (backup : ℕ) (main sides : List Copied) (cursor : Cursor) : Type 0 where
   pub main_whole : (k : ℕ) (d : Copied) → k < cursor.main → is_whole_at backup (slice_index_or main k d) ≡ true
   pub main_last : cursor.main ≤ length main - 1

@@ -5,7 +5,7 @@ use Rattle.rk_entry.specs.declared.entry.Entry.{Entry}
 use Rattle.rk_entry.specs.Entries.{entries_of}
 use Rattle.rk_log.specs.declared.copied.TheConstants.{FIRST_SEGMENT}
 
--- the entries that these segments spell, each up to the first place where no whole entry stands
+-- the entries that these segments spell, each up to the first place where there is no whole entry
 abbrev pub spelled_in : List (List ℕ) → List Entry
 spelled_in segments = flat_map entries_of segments
 
@@ -14,7 +14,7 @@ abbrev pub spelled_behind : ℕ → List (List ℕ) → List Entry
 spelled_behind offset [] = []
 spelled_behind offset (bytes ∷ more) = entries_of (drop offset bytes) ++ spelled_in more
 
--- a segment, where it was written, and those behind it
+-- a segment and those behind it, if it was written
 abbrev pub written_then : Option (List ℕ) → List (List ℕ) → List (List ℕ)
 written_then None more = []
 written_then (Some bytes) more = bytes ∷ more

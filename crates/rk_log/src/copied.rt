@@ -16,8 +16,8 @@ pub(crate) const FIRST_SEGMENT: u32 = 1;
 /// The most backups that a log may have.
 pub const MOST_BACKUPS: usize = rk_types::MOST_BACKUPS as usize;
 
-/// A segment, and how many of its bytes each backup is known to hold. Its place in its list tells its number: the one
-/// that it was made with is never read.
+/// A segment, and how many of its bytes each backup is known to hold. Its place in its list gives its number: the
+/// number that it was made with is never read.
 #[derive(Drop)]
 pub(crate) struct Copied {
     pub(crate) segment: Segment,
@@ -64,7 +64,7 @@ fn begun(alloc: Global, bytes: &[u8]) -> Result<Copied, NoMemory>
     Ok(Copied::new(segment))
 }
 
-// Puts the bytes at the end of the last segment where they fit, and answers whether they do.
+// Puts the bytes at the end of the last segment if they fit, and answers whether they do.
 fn put_in_last(main: &mut [Copied], bytes: &[u8]) -> bool
     requires { length bytes.now ≤ SEGMENT_BYTES }
     ensures room { result ≡ has_room (bytes_in main.old) bytes.now }
@@ -79,8 +79,8 @@ fn put_in_last(main: &mut [Copied], bytes: &[u8]) -> bool
     main[count - 1].segment.append(bytes).is_ok()
 }
 
-/// Puts the bytes at the end of the last segment where they fit, and else into a new one. After `NoMemory` nothing has
-/// changed. It takes memory only for a new segment.
+/// Puts the bytes at the end of the last segment if they fit, and otherwise into a new one. After `NoMemory` nothing
+/// has changed. It takes memory only for a new segment.
 pub(crate) fn put_bytes(main: &mut Vec<Copied>, bytes: &[u8]) -> Result<(), NoMemory>
     requires { length bytes.now ≤ SEGMENT_BYTES }
     ensures bytes { OnOk result (bytes_in main.new.items ≡ with_bytes (bytes_in main.old.items) bytes.now) }
@@ -123,7 +123,7 @@ pub(crate) fn raise(segments: &mut [Copied], first: u32, number: u32, backup: us
     }
 }
 
-/// The place of the first segment, from `from` on, that a backup is not known to hold whole: the end of the list where
+/// The place of the first segment, from `from` on, that a backup is not known to hold whole: the end of the list if
 /// there is none. It takes a step for each segment that it passes.
 pub(crate) fn lacking_from(segments: &[Copied], backup: usize, from: usize) -> usize
     requires backup { backup < MOST_BACKUPS }
@@ -137,7 +137,7 @@ pub(crate) fn lacking_from(segments: &[Copied], backup: usize, from: usize) -> u
     at
 }
 
-/// The bytes of the segment of this number; none where there is no such segment.
+/// The bytes of the segment of this number; none if there is no such segment.
 pub(crate) fn bytes_among<'a>(main: &'a [Copied], sides: &'a [Copied], number: u32) -> &'a [u8]
     ensures bytes { result.now ≡ bytes_among number main.now sides.now }
     ensures within { length result.now ≤ SEGMENT_BYTES }

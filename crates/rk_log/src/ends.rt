@@ -35,7 +35,7 @@ fn is_held(main: &[Copied], backups: usize, end: EntryEnd) -> bool
     main[end.segment as usize - 1].is_held_to(end.offset, backups)
 }
 
-/// How many entries, counted from the first, each of the first backups is known to hold, where it holds the first
+/// How many entries, counted from the first, each of the first backups is known to hold, given that it holds the first
 /// `from` of them. It takes a step for each entry beyond those.
 pub(crate) fn held_from(ends: &[EntryEnd], main: &[Copied], backups: usize, from: usize) -> usize
     requires backups { backups ≤ MOST_BACKUPS }

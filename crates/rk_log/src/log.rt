@@ -67,8 +67,8 @@ impl MasterLog {
         })
     }
 
-    /// Puts an entry at the end, and answers its place, which counts from 0. It goes into the last main segment where
-    /// it fits, and else begins the next one, which takes the memory of a whole segment. After `NoMemory` nothing has
+    /// Puts an entry at the end, and answers its place, which counts from 0. It goes into the last main segment if it
+    /// fits, and otherwise begins the next one, which takes the memory of a whole segment. After `NoMemory` nothing has
     /// changed. It takes the time to spell the entry, and a constant time besides, on average.
     pub fn append(&mut self, entry: &Entry) -> Result<u64, NoMemory>
         requires lawful { IsLawfulEntry entry.now }
@@ -90,7 +90,7 @@ impl MasterLog {
     }
 
     /// Puts a side segment beside the log, and answers the number that it has from now on, whatever number it was made
-    /// with. After `NoMemory`, which also comes where no number is left for another one, nothing has changed. It takes a
+    /// with. After `NoMemory`, which also comes if no number is left for another one, nothing has changed. It takes a
     /// constant time on average.
     pub fn add_side(&mut self, segment: Segment) -> Result<u32, NoMemory>
         requires { segment_bytes self.old + length segment.bytes < 2 ^ 64 }
@@ -108,7 +108,7 @@ impl MasterLog {
     }
 
     /// The bytes that a backup is to be sent next: those of the first segment that it is not known to hold whole, main
-    /// segments first, from the known length on; lent. None where it holds all. The search begins at the backup's cursor, and
+    /// segments first, from the known length on; lent. None if it holds all. The search begins at the backup's cursor, and
     /// passes at most one main segment, and side segments without bytes.
     pub fn pending(&self, backup: u8) -> Option<Piece<'_>>
         requires { IsBackup self.now backup }
@@ -194,8 +194,8 @@ impl MasterLog {
         self.committed as u64
     }
 
-    /// Whether every backup is known to hold all of the side segment of this number; false where there is none, as for
-    /// the number of a main segment. It takes a step for each backup.
+    /// Whether every backup is known to hold all of the side segment of this number; false if there is none, as for the
+    /// number of a main segment. It takes a step for each backup.
     pub fn side_stored(&self, segment: u32) -> bool
         ensures { result ≡ is_side_stored self.now segment }
     {
@@ -215,7 +215,7 @@ impl MasterLog {
         read_behind(*self.ends.allocator(), start.offset, segments)
     }
 
-    // Where the entry before a place ends; before the first segment's bytes where there is none.
+    // Where the entry before a place ends; before the first segment's bytes if there is none.
     fn start_of(&self, place: usize) -> EntryEnd
         requires { place ≤ length self.now.entries }
         ensures { result ≡ start_of self.now.entries place }
@@ -229,7 +229,7 @@ impl MasterLog {
         self.ends[place - 1]
     }
 
-    /// The bytes of a main or side segment, lent in constant time; none where there is no segment of this number.
+    /// The bytes of a main or side segment, lent in constant time; none if there is no segment of this number.
     pub fn bytes(&self, segment: u32) -> &[u8]
         ensures bytes { result.now ≡ bytes_of self.now segment }
         ensures within { length result.now ≤ SEGMENT_BYTES }

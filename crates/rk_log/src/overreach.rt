@@ -1,6 +1,6 @@
 use thiserror::Error;
 
-/// A backup told that it holds `length` bytes of a segment that has `limit`.
+/// A backup reported that it holds `length` bytes of a segment that has `limit`.
 #[derive(Clone, Copy, Debug, PartialEq, Eq, Error)]
 #[error("{length} bytes of a segment that has {limit}")]
 pub struct Overreach {

@@ -37,7 +37,7 @@ fn missing<'a>(number: u32, copied: &'a Copied, backup: usize) -> Piece<'a>
 }
 
 /// What a backup is not known to hold of the first segment that it does not hold whole, among segments that are numbered
-/// from `first` on, past the first `from` of them. None where it holds all of those.
+/// from `first` on, past the first `from` of them. None if it holds all of those.
 pub(crate) fn pending_in<'a>(
     segments: &'a [Copied],
     first: u32,

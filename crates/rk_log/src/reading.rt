@@ -10,7 +10,7 @@ use rk_types::NoMemory;
 use std::alloc::Global;
 
 /// The entries that these segments spell, those of the first segment from this byte on; no more than the first segment's
-/// bytes stand before it. It takes the time to read them.
+/// bytes are skipped. It takes the time to read them.
 pub(crate) fn read_behind(
     alloc: Global,
     offset: u32,
@@ -42,7 +42,7 @@ fn read_all(alloc: Global, found: &mut Vec<Entry>, segments: &[Copied]) -> Resul
     Ok(())
 }
 
-// Adds the entries that bytes spell, up to the first place where none stands.
+// Adds the entries that bytes spell, up to the first place where there is none.
 fn read_more(alloc: Global, found: &mut Vec<Entry>, bytes: &[u8]) -> Result<(), NoMemory>
     ensures { OnOk result (found.new.items ≡ found.old.items ++ entries_of bytes.now) }
 {

@@ -1,4 +1,4 @@
--- One field after another that it tells the count of.
+-- One field, and after it another whose count it gives.
 use Rattle.std.proofs.Common.{◌≡◌, ℕ, ◌+◌, List, ◌++◌, length, ◌≤◌, Result, Ok, sym, ap, subst, ◌∙◌, append_assoc, arith, length-append}
 use Rattle.rk_entry.specs.declared.error.DecodeError.{DecodeError}
 use Rattle.rk_entry.specs.Steps.{◌>>=◌}

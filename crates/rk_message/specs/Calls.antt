@@ -33,14 +33,14 @@ op_number (Put value) = PUT
 op_number (CondPut expected value) = COND_PUT
 op_number Delete = DELETE
 
--- what stands after the key
+-- what follows the key
 abbrev pub op_bytes : Op → List ℕ
 op_bytes Get = []
 op_bytes (Put value) = value_bytes value
 op_bytes (CondPut expected value) = number_bytes w64 expected ++ value_bytes value
 op_bytes Delete = []
 
--- how many bytes stand after the key
+-- how many bytes follow the key
 abbrev pub op_count : Op → ℕ
 op_count Get = 0
 op_count (Put value) = 4 + length value
@@ -54,7 +54,7 @@ IsLawfulOp (Put value) = value_fault value ≡ None
 IsLawfulOp (CondPut expected value) = IsNumber w64 0 expected × (value_fault value ≡ None)
 IsLawfulOp Delete = ⊤
 
--- the number of the operation, the table, the key, and what stands after it
+-- the number of the operation, the table, the key, and what follows it
 unfoldable pub asked_bytes : Asked → List ℕ
 asked_bytes asked = number_bytes w8 (op_number asked.op) ++ (number_bytes w64 asked.table ++ (key_bytes asked.key ++ op_bytes asked.op))
 
@@ -143,7 +143,7 @@ answer_number (Done (Mismatch version)) = MISMATCH
 answer_number (Moved tablet) = MOVED
 answer_number (NotYet key) = NOT_YET
 
--- what stands after the number
+-- what follows the number
 abbrev pub told_bytes : Answer → List ℕ
 told_bytes (Done (Found version value)) = number_bytes w64 version ++ value_bytes value
 told_bytes (Done Absent) = []
@@ -153,7 +153,7 @@ told_bytes (Done (Mismatch version)) = number_bytes w64 version
 told_bytes (Moved tablet) = number_bytes w32 tablet
 told_bytes (NotYet key) = key_bytes key
 
--- how many bytes stand after the number
+-- how many bytes follow the number
 abbrev pub told_count : Answer → ℕ
 told_count (Done (Found version value)) = 8 + (4 + length value)
 told_count (Done Absent) = 0
@@ -173,7 +173,7 @@ IsLawfulAnswer (Done (Mismatch version)) = IsNumber w64 0 version
 IsLawfulAnswer (Moved tablet) = IsNumber w32 0 tablet
 IsLawfulAnswer (NotYet key) = key_fault key ≡ None
 
--- the number of the answer, and what stands after it
+-- the number of the answer, and what follows it
 unfoldable pub answer_bytes : Answer → List ℕ
 answer_bytes answer = number_bytes w8 (answer_number answer) ++ told_bytes answer
 

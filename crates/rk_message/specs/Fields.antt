@@ -41,7 +41,7 @@ IsLawfulNode Coordinator = ⊤
 IsLawfulNode (Master number) = IsNumber w8 0 number
 IsLawfulNode (Backup number) = IsNumber w8 0 number
 
--- the node of this kind with this number, where there is one
+-- the node of this kind with this number, if there is one
 abbrev pub node_of : ℕ → ℕ → Option Node
 node_of kind number =
     if kind == CLIENT then Some (Client number)

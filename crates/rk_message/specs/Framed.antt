@@ -9,7 +9,7 @@ use Rattle.rk_message.specs.declared.message.Body.TheVariants.{Own}
 use Rattle.rk_message.specs.Kinds.{kind_of}
 use Rattle.rk_message.specs.Frames.{IsLawfulMessage, frame_bytes, read_frame}
 
--- the message that was read; where none was, one that says nothing
+-- the message that was read; if none was, a message that says nothing
 abbrev pub message_in : Result (Message × List ℕ) DecodeError → Message
 message_in (Ok read) = read.0
 message_in (Err _) = record { from = Coordinator; to = Coordinator; body = Own (record { tablet = 0; term = 0 }) }

@@ -104,7 +104,7 @@ IsLawfulBody (bodies.Read body) = IsLawfulReadSegment body
 IsLawfulBody (bodies.Copy body) = IsLawfulCopy body
 IsLawfulBody (bodies.Rebuilt body) = IsLawfulRebuilt body
 
--- whether the fields of some lawful message of this kind take so many bytes, as far as their number alone tells
+-- whether the fields of some lawful message of this kind take so many bytes, as far as their number alone shows
 unfoldable pub is_size : Kind → ℕ → Bool
 is_size Request size = is_in_range (REQUEST_BYTES + 1) (REQUEST_BYTES + LONGEST_KEY + 12 + LONGEST_VALUE) size
 is_size Reply size = (size == REPLY_BYTES) || is_in_range (REPLY_BYTES + 2) (REPLY_BYTES + 12 + LONGEST_VALUE) size
@@ -190,7 +190,7 @@ read_kind bytes = do
   kind ← ok_or (kind_numbered number.0) (Bad BAD_KIND)
   Ok (kind, number.1)
 
--- whether some lawful message of this kind has a body of so many bytes, as far as their number alone tells
+-- whether some lawful message of this kind has a body of so many bytes, as far as their number alone shows
 abbrev pub is_body_length : Kind → ℕ → Bool
 is_body_length kind body = is_in_range NODES_BYTES LONGEST_BODY body && is_size kind (body - NODES_BYTES)
 

@@ -60,7 +60,7 @@ entry_count entry = length (spelled entry)
 
 -- ---- entries that end a body
 
--- how many bytes of an entry of this kind stand up to its last length or count, where its key has so many bytes
+-- how many bytes an entry of this kind has up to its last length or count, if its key has so many bytes
 abbrev pub front_length : Kind → ℕ → ℕ
 front_length kinds.Object key = HEAD_BYTES + OBJECT_BYTES + key
 front_length kinds.Tombstone key = HEAD_BYTES + TOMBSTONE_BYTES
@@ -69,14 +69,14 @@ front_length kinds.Carried key = HEAD_BYTES + CARRIED_BYTES
 front_length kinds.Joined key = HEAD_BYTES + JOINED_BYTES
 front_length kinds.LongObject key = HEAD_BYTES + OBJECT_BYTES + key
 
--- the number, where what was read of the front of an entry shows no other fault than that more is to come
+-- the number, if what was read of the front of an entry shows no other fault than that more is to come
 abbrev pub where_lawful : ℕ → Result (Entry × List ℕ) DecodeError → Result ℕ DecodeError
 where_lawful n (Ok read) = Ok n
 where_lawful n (Err Cut) = Ok n
 where_lawful n (Err (Bad code)) = Err (Bad code)
 where_lawful n (Err NoMemory) = Err NoMemory
 
--- the number, where the first `count` bytes of an entry are there and lawful
+-- the number, if the first `count` bytes of an entry are there and lawful
 unfoldable pub where_front_is : ℕ → ℕ → List ℕ → Result ℕ DecodeError
 where_front_is count n bytes = if nat_lt (length bytes) count then Err Cut else where_lawful n (read_entry (take count bytes))
 
@@ -88,12 +88,12 @@ told_length bytes = do
   body ← read_number w32 number.1
   where_front_is (front_length kind (unwrap_or (slice_get bytes KEY_LENGTH_PLACE) 0)) (HEAD_BYTES + body.0) bytes
 
--- nothing, unless an entry tells of another length than `size` for the body that it ends, of which `before` bytes stand before it
+-- nothing, unless an entry shows another length than `size` for the body that it ends, of which `before` bytes come before it
 abbrev pub where_none_other : ℕ → ℕ → Result ℕ DecodeError → Result (Unit {0}) DecodeError
 where_none_other before size (Ok told) = where_body_is (before + told) size tt
 where_none_other before size (Err fault) = Ok tt
 
--- what was read at these bytes of the entry that ends such a body: another length comes before a fault of its own, once it is told
+-- what was read at these bytes of the entry that ends such a body: another length comes before a fault of its own, once it is known
 abbrev pub where_last : ℕ → ℕ → List ℕ → Result (Entry × List ℕ) DecodeError → Result (Entry × List ℕ) DecodeError
 where_last before size bytes (Ok read) = where_body_is (before + (length bytes - length read.1)) size read
 where_last before size bytes (Err fault) = where_none_other before size (told_length bytes) >>= λ none. Err fault

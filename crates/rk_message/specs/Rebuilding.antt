@@ -80,7 +80,7 @@ read_read_segment bytes = do
 
 -- ---- Copy
 
--- the bytes that are kept of a segment, which are none where it was never written
+-- the bytes that are kept of a segment, which are none if it was never written
 abbrev pub kept : Option (List ℕ) → List ℕ
 kept None = []
 kept (Some bytes) = bytes
@@ -107,14 +107,14 @@ read_present bytes = do
   present ← ok_or (present_numbered number.0) (Bad BAD_CHOICE)
   Ok (present, number.1)
 
--- so many bytes of a segment, of which there are none where it was never written, and the bytes after them
+-- so many bytes of a segment, of which there are none if it was never written, and the bytes after them
 unfoldable pub read_kept_bytes : Bool → ℕ → List ℕ → Result (Option (List ℕ) × List ℕ) DecodeError
 read_kept_bytes true count bytes = do
   read ← read_bytes count bytes
   Ok (Some read.0, read.1)
 read_kept_bytes false count bytes = unless (nat_lt 0 count) BAD_CHOICE (None, bytes)
 
--- what a Copy of `size` bytes tells of its segment, and the bytes after it
+-- what a Copy of `size` bytes carries of its segment, and the bytes after it
 unfoldable pub read_kept : ℕ → List ℕ → Result (Option (List ℕ) × List ℕ) DecodeError
 read_kept size bytes = do
   present ← read_present bytes

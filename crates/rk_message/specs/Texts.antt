@@ -1,4 +1,4 @@
--- Keys, values and numbers in calls; where one ends a body, the body's length is compared once its own length is known.
+-- Keys, values and numbers in calls; when one ends a body, the body's length is compared once its own length is known.
 use Rattle.std.specs.Prelude.{ℕ, ◌+◌, List, Result}
 use Rattle.std.specs.Int.{Width}
 use Rattle.rk_types.specs.declared.text.TheConstants.{LONGEST_VALUE}

@@ -54,7 +54,7 @@ with_message message wire =
 abbrev pub without_message : ℕ → Traffic → Traffic
 without_message n wire = record wire { messages = remove wire.messages n }
 
--- what is said where a number has no message
+-- what is said if a number has no message
 abbrev pub missing_in : ℕ → Option Message → Option NoMessage
 missing_in n None = Some (record { 0 = n })
 missing_in n (Some _) = None
@@ -76,6 +76,6 @@ abbrev pub number_at : ℕ → Traffic → Option ℕ
 number_at zero wire = None
 number_at (suc place) wire = slice_get (numbers wire.messages) place
 
--- what is said where a message is not there and was to be read
+-- what is said if a message that was to be read is not there
 abbrev pub wire_error_by : NoMessage → WireError
 wire_error_by none = errors.NoMessage none.0

@@ -42,11 +42,11 @@ pub const MOVED: u8 = 6;
 /// The number of an answer: the record has not arrived yet.
 pub const NOT_YET: u8 = 7;
 
-/// Bytes of a Request but for the key and what stands after it: the tablet, the seq, the stamp, the number of the
-/// operation, the table and the length of the key.
+/// Bytes of a Request but for the key and what follows it: the tablet, the seq, the stamp, the number of the operation,
+/// the table and the length of the key.
 pub const REQUEST_BYTES: u32 = 4 + 8 + 8 + 1 + 8 + 1;
 
-/// Bytes of a Reply but for what stands after the number of the answer: the seq, the stamp, the place and that number.
+/// Bytes of a Reply but for what follows the number of the answer: the seq, the stamp, the place and that number.
 pub const REPLY_BYTES: u32 = 8 + 8 + 8 + 1;
 
 /// Bytes of a Lookup: the table and the hash.
@@ -72,7 +72,7 @@ pub struct Request {
 #[derive(Drop, PartialEq, Eq)]
 pub struct Reply {
     pub seq: u64,
-    /// The stamp of the call's record in the journal, 0 where the call was not carried out.
+    /// The stamp of the call's record in the journal, 0 if the call was not carried out.
     pub stamp: u64,
     /// The place of that record, counted from 0.
     pub place: u64,

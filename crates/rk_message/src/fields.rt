@@ -60,7 +60,7 @@ pub fn read_node(bytes: &[u8]) -> Result<(Node, &[u8]), DecodeError>
     Ok((node, rest))
 }
 
-// The node of this kind with this number, where there is one.
+// The node of this kind with this number, if there is one.
 fn node_of(kind: u8, number: u32) -> Option<Node>
     ensures { result ≡ node_of kind number }
 {

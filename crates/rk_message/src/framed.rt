@@ -9,8 +9,8 @@ use rk_types::{NoMemory, Node};
 use std::alloc::Global;
 use std::marker::Model;
 
-/// A message as the bytes of its frame. Contracts see the message. Its receiver and its kind stand beside the bytes, so that
-/// who looks for messages reads no frame.
+/// A message as the bytes of its frame. Contracts see the message. Its receiver and its kind are kept beside the bytes, so
+/// that a search for messages reads no frame.
 #[derive(Drop)]
 pub struct Frame {
     to: Node,

@@ -52,7 +52,7 @@ pub struct Transfer {
     pub ends: Listed<Ended>,
 }
 
-/// The target may serve: the master to pull from, and what the source told.
+/// The target may serve: the master to pull from, and what the source reported.
 #[derive(Drop, PartialEq, Eq)]
 pub struct Grant {
     pub tenure: Tenure,

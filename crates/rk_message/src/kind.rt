@@ -62,7 +62,7 @@ impl Kind {
         self as u8
     }
 
-    /// The kind with this number, where there is one.
+    /// The kind with this number, if there is one.
     pub fn numbered(number: u8) -> Option<Kind>
         ensures { result ≡ kind_numbered number }
     {

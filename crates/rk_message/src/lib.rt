@@ -1,9 +1,9 @@
 //! The messages that clients, the coordinator, masters and backups send each other, the one frame that spells each of
 //! them, and the wire that carries them.
 //!
-//! It stands on `rk_types` and `rk_entry`. What it promises: [`encode_frame`] writes the frame of a message, and
-//! [`decode_frame`] reads a message exactly where its frame begins the bytes, and else names the first fault from the
-//! left; no frame begins another; a duplicate equals what it was made from. The laws of frames stand in
+//! It builds on `rk_types` and `rk_entry`. What it promises: [`encode_frame`] writes the frame of a message, and
+//! [`decode_frame`] reads a message exactly when its frame begins the bytes, and otherwise names the first fault from
+//! the left; no frame begins another; a duplicate equals what it was made from. The laws of frames are in
 //! `proofs/Headlines.antt`: a frame is read again, whatever follows it, and takes as many bytes as are counted; and no
 //! frame begins another.
 //!

@@ -60,7 +60,7 @@ pub enum Body {
     Rebuild(Rebuild),
     /// Send this segment of a master's log (master, backup 1).
     Read(ReadSegment),
-    /// The segment, where it was ever written (backup 1, master).
+    /// The segment, if it was ever written (backup 1, master).
     Copy(CopySegment),
     /// The tablet is rebuilt and stored (master, coordinator).
     Rebuilt(Rebuilt),

@@ -51,7 +51,7 @@ pub struct ReadSegment {
     pub segment: u32,
 }
 
-/// What is kept of that segment; none where it was never written.
+/// What is kept of that segment; none if it was never written.
 #[derive(Drop, PartialEq, Eq)]
 pub struct CopySegment {
     pub tenure: Tenure,

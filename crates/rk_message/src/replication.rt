@@ -22,7 +22,7 @@ pub struct Append {
     pub bytes: Listed<u8>,
 }
 
-/// A backup tells how many bytes of a segment it keeps.
+/// A backup reports how many bytes of a segment it keeps.
 #[derive(Clone, Copy, PartialEq, Eq)]
 pub struct Stored {
     pub segment: u32,

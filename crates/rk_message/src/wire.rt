@@ -69,7 +69,7 @@ impl Wire {
         Ok(number)
     }
 
-    /// The message of this number, read from its frame. `NoMessage` comes exactly where it was never sent or is forgotten, unless
+    /// The message of this number, read from its frame. `NoMessage` comes exactly when it was never sent or is forgotten, unless
     /// memory runs out. One search, and the frame is read.
     pub fn message(&self, n: u64) -> Result<Message, WireError>
         ensures ok { IfOk result (λ message. get self.now.messages n ≡ Some message) }
@@ -80,7 +80,7 @@ impl Wire {
         Ok(self.frame(n)?.message()?)
     }
 
-    /// The frame of the message of this number. `NoMessage` comes exactly where it was never sent or is forgotten. One search.
+    /// The frame of the message of this number. `NoMessage` comes exactly when it was never sent or is forgotten. One search.
     pub fn frame(&self, n: u64) -> Result<&Frame, NoMessage>
         ensures ok { IfOk result (λ frame. get self.now.messages n ≡ Some frame.now) }
         ensures err { IfErr result (λ e. missing n self.now ≡ Some e) }
@@ -89,9 +89,9 @@ impl Wire {
         self.messages.get(n).ok_or(NoMessage(n))
     }
 
-    /// Takes the message of this number off the wire and drops it. `NoMessage` comes exactly where it was never sent or
-    /// is forgotten, and leaves the wire as it was. One search, and a move for each message that was sent before it, or for
-    /// each after it where those are fewer.
+    /// Takes the message of this number off the wire and drops it. `NoMessage` comes exactly when it was never sent or is
+    /// forgotten, and leaves the wire as it was. One search, and a move for each message that was sent before it, or for
+    /// each after it if those are fewer.
     pub fn forget(&mut self, n: u64) -> Result<(), NoMessage>
         ensures ok { OnOk result (missing n self.old ≡ None) }
         ensures forgotten { OnOk result (self.new ≡ without_message n self.old) }
@@ -105,7 +105,7 @@ impl Wire {
         Ok(())
     }
 
-    /// The number of the oldest message; none where the wire is empty. No search.
+    /// The number of the oldest message; none if the wire is empty. No search.
     pub fn oldest(&self) -> Option<u64>
         ensures { result ≡ number_at 1 self.now }
     {
@@ -140,21 +140,21 @@ impl Wire {
         self.messages.count()
     }
 
-    /// How many messages were ever sent: the number of the last of them, 0 where there was none.
+    /// How many messages were ever sent: the number of the last of them, 0 if there was none.
     pub fn sent(&self) -> u64
         ensures { result ≡ self.now.sent }
     {
         self.sent
     }
 
-    /// The bytes of the frames of all messages that are there; 2^64 - 1 where they are more.
+    /// The bytes of the frames of all messages that are there; 2^64 - 1 if they are more.
     pub fn bytes(&self) -> u64
         ensures { result ≡ min (bytes_on self.now) (2 ^ 64 - 1) }
     {
         u64::try_from(self.bytes).unwrap_or(u64::MAX)
     }
 
-    /// The receiver of the message of this number. `NoMessage` comes exactly where it was never sent or is forgotten.
+    /// The receiver of the message of this number. `NoMessage` comes exactly when it was never sent or is forgotten.
     /// One search.
     pub fn address(&self, n: u64) -> Result<Node, NoMessage>
         ensures ok { IfOk result (λ to. receiver_of n self.now ≡ Some to) }
@@ -164,7 +164,7 @@ impl Wire {
     }
 
     /// The number of the kind of the message of this number: the first byte of its frame. `NoMessage` comes exactly
-    /// where it was never sent or is forgotten. One search.
+    /// when it was never sent or is forgotten. One search.
     pub fn kind(&self, n: u64) -> Result<u8, NoMessage>
         ensures ok { IfOk result (λ number. kind_number_of n self.now ≡ Some number) }
         ensures err { IfErr result (λ e. missing n self.now ≡ Some e) }

@@ -1,4 +1,4 @@
--- A history stays ordered with its callers when a caller's next call is recorded, accepted and told.
+-- A history stays ordered with its callers when a caller's next call is recorded, accepted and answered.
 use Rattle.std.proofs.Common.{◌≡◌, ◌≢◌, ℕ, ◌+◌, ◌<◌, Bool, true, false, cond, ◌&&◌, eqb, List, [], ◌∷◌, ◌++◌, Option, Some, None, length, refl, sym, ap, ◌∙◌, subst, ⊎_elim, arith}
 use Rattle.std.proofs.lemmas.Bool.{true_from_ne_false, cases_eq, cases_Bool, and_from, eq-eqb, ne_eqb, and_right}
 use Rattle.std.proofs.lemmas.List.{append-nil, map-append}

@@ -1,4 +1,4 @@
--- A record with the latest stamp, appended to a lane's journal, stands at the end of the merged history.
+-- A record with the latest stamp, appended to a lane's journal, is at the end of the merged history.
 use Rattle.std.proofs.Common.{◌≡◌, ℕ, ◌+◌, ◌<◌, true, false, cond, List, [], ◌∷◌, ◌++◌, length, zero, suc, refl, sym, ap, ◌∙◌, arith, append_assoc, add-zero}
 use Rattle.std.proofs.lemmas.List.{append-nil}
 use Rattle.std.proofs.lemmas.Bool.{cond-true, cond-false}

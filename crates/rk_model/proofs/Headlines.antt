@@ -16,8 +16,8 @@ use Rattle.rk_model.proofs.Appended.{lines_from_unkept}
 use Rattle.rk_model.proofs.Places.{all_at}
 use Rattle.rk_model.proofs.Answered.{IsSettledLine, settled_if_idle, receipts_asked}
 
--- Two histories in a row are legal exactly where the first is legal, and the second from the map that the first
--- leaves; and the map after both is the map after the second, from there.
+-- Two histories in a row are legal exactly when the first is legal, and the second from the map that the first leaves;
+-- and the map after both is the map after the second, from there.
 pub joined_histories_are_legal : (m : Map) (front back : List Placed)
     → IsLegal m (front ++ back) ↔ IsLegal m front × IsLegal (map_after m front) back
 joined_histories_are_legal m front back =
@@ -26,8 +26,8 @@ joined_histories_are_legal m front back =
 pub joined_histories_leave_a_map : (m : Map) (front back : List Placed) → map_after m (front ++ back) ≡ map_after (map_after m front) back
 joined_histories_leave_a_map = Rattle.rk_model.proofs.Histories.map_after-append
 
--- A history is legal exactly where the records of each key of each table are, and the map after it has at a key what
--- the map after the records of that key has there. So nothing that happens at one key bears on another.
+-- A history is legal exactly when the records of each key of each table are, and the map after it has at a key what the
+-- map after the records of that key has there. So nothing that happens at one key bears on another.
 pub each_key_is_legal_by_itself : (m : Map) (history : List Placed)
     → IsLegal m history ↔ ((table : ℕ) (key : List ℕ) → IsLegal m (records_at table key history))
 each_key_is_legal_by_itself m history = (λ legal table key. legal_at m table key history legal, legal_from_keys m history)
@@ -36,8 +36,8 @@ pub each_key_is_mapped_by_itself : (m : Map) (history : List Placed) (table : �
     → map_after m history table key ≡ map_after m (records_at table key history) table key
 each_key_is_mapped_by_itself = Rattle.rk_model.proofs.Keys.map_after_by_key
 
--- A record that is allowed after the first part of a legal history may be put in there, where the rest has no record
--- of its key, and such a record may be taken out; the map after changes at its key alone.
+-- A record that is allowed after the first part of a legal history may be put in there if the rest has no record of its
+-- key, and such a record may be taken out; the map after changes at its key alone.
 pub record_of_another_key_put_in : (m : Map) (front back : List Placed) (placed : Placed) → IsLegal m (front ++ back)
     → IsAllowedIn (map_after m front) placed → records_at placed.call.table placed.call.key back ≡ [] → IsLegal m (front ++ placed ∷ back)
 record_of_another_key_put_in m front back placed legal allowed none =
@@ -116,8 +116,8 @@ pub map_after_the_merged_history : (m : Map) (journals : List (List Placed)) (ta
     → map_after m (records_of (merged journals)) table key ≡ map_after m (journal_of journals (lane_of_key key)) table key
 map_after_the_merged_history = Rattle.rk_model.proofs.Lanes.map_after_merged
 
--- A record with a stamp above all others, appended to the journal of its lane, stands at the end of the merged
--- history, unless it is a read that nobody accepted.
+-- A record with a stamp above all others, appended to the journal of its lane, is at the end of the merged history,
+-- unless it is a read that nobody accepted.
 pub latest_record_stands_last : (journals : List (List Placed)) (lane : ℕ) (placed : Placed) → lane < length journals
     → IsLatest placed.stamp journals → is_kept placed ≡ true
     → merged (appended journals lane placed) ≡ merged journals ++ record { lane = lane; placed = placed } ∷ []
@@ -158,7 +158,7 @@ asking_keeps_order journals history before after client call ordered idle kept =
     }
 
 -- A history that is ordered with its callers stays so when the next call of a caller is recorded with a stamp above
--- all others, accepted, and told to the caller, who then has no call outstanding.
+-- all others, accepted, and reported to the caller, who then has no call outstanding.
 pub told_answer_keeps_order : (journals : List (List Placed)) (before after : ℕ → Caller) (lane : ℕ) (placed : Placed) (receipt : Receipt)
     → IsOrdered journals (merged journals) before → IsAnswered journals before after lane placed receipt
     → IsOrdered (appended journals lane placed) (merged (appended journals lane placed)) after

@@ -1,4 +1,4 @@
--- A history, key by key: it is legal where the records of each key are, and so is the map after it.
+-- A history, key by key: it is legal if the records of each key are, and so is the map after it.
 use Rattle.std.proofs.Common.{arith}
 use Rattle.std.proofs.Common.{◌≡◌, ℕ, true, false, cond, ◌&&◌, eqb, List, [], ◌∷◌, Option, Some, None, refl, sym, ap, ◌∙◌, subst, ⊎_elim}
 use Rattle.std.proofs.lemmas.Bool.{and_parts, and_from, eqb-true, eq-eqb, cond-false, cases_Bool}

@@ -1,4 +1,4 @@
--- Merged histories lane by lane: there is one, and it is legal where the journals are.
+-- Merged histories lane by lane: there is one, and it is legal if the journals are.
 use Rattle.std.proofs.Common.{◌<◌, length, ◌≡◌, ◌≢◌, ℕ, true, false, eqb, List, [], ◌∷◌, refl, sym, ap, ◌∙◌, subst, ⊎_elim}
 use Rattle.std.proofs.lemmas.Bool.{cases_Bool, cases_eq, eqb-true, eq-eqb, ne_eqb}
 use Rattle.std.proofs.lemmas.List.Elements.{All-nil, All-cons, All-head, All-tail, All-weaker, All-filter}

@@ -1,4 +1,4 @@
--- What stands at a place of a list, after one more element.
+-- What is at a place of a list, after one more element.
 use Rattle.std.proofs.Common.{get_or, sym, ◌≡◌, ◌≢◌, ℕ, ◌<◌, ◌⊎◌, Bool, true, false, cond, List, [], ◌∷◌, ◌++◌, Some, length, zero, suc, inl, inr, refl, ap, ◌∙◌, get_or-set_same, get_or-set_other, subst, ⊎_elim}
 use Rattle.std.proofs.lemmas.Bool.{cases_eq}
 use Rattle.std.proofs.lemmas.List.Elements.{All-nil, All-cons, All-head, All-tail}

@@ -3,7 +3,7 @@ use Rattle.std.specs.Prelude.{◌≡◌, ℕ, ◌<◌, ◌==◌, ◌&&◌, Bool,
 use Rattle.rk_types.specs.declared.history.Placed.{Placed}
 use Rattle.rk_model.specs.Machine.{Entry, never, live, gone, Allowed, change_of}
 
--- a map: what stands at each key of each table
+-- a map: what is at each key of each table
 abbrev pub Map : Type 0
 Map = ℕ → List ℕ → Entry
 

@@ -11,19 +11,19 @@ pub data Entry : Type 0 where
   live : ℕ → List ℕ → Entry
   gone : ℕ → Entry
 
--- the version that was given last, 0 where none was
+-- the version that was given last, 0 if none was
 abbrev pub last_version : Entry → ℕ
 last_version never = 0
 last_version (live version value) = version
 last_version (gone version) = version
 
--- the version of the record that is there, 0 where none is
+-- the version of the record that is there, 0 if none is
 abbrev pub live_version : Entry → ℕ
 live_version never = 0
 live_version (live version value) = version
 live_version (gone version) = 0
 
--- what a read tells
+-- what a read returns
 abbrev pub read_of : Entry → Outcome
 read_of never = Absent
 read_of (live version value) = Found version value
@@ -51,7 +51,7 @@ Allowed never Delete outcome = outcome ≡ Absent
 Allowed (live version value) Delete outcome = IsDeletedAbove version outcome
 Allowed (gone version) Delete outcome = outcome ≡ Absent
 
--- the entry that an operation with this outcome leaves; none where the entry stays
+-- the entry that an operation with this outcome leaves; none if the entry stays
 abbrev pub change_of : Op → Outcome → Option Entry
 change_of (Put value) (Written version) = Some (live version value)
 change_of (CondPut expected value) (Written version) = Some (live version value)

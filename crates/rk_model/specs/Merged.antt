@@ -14,7 +14,7 @@ is_mutation (Put value) = true
 is_mutation (CondPut expected value) = true
 is_mutation Delete = true
 
--- whether a record stands in the merged history: a read that nobody accepted does not
+-- whether a record is in the merged history: a read that nobody accepted is not
 abbrev pub is_kept : Placed → Bool
 is_kept placed = placed.accepted || is_mutation placed.call.op
 

@@ -1,4 +1,4 @@
--- What a merged history owes to the callers: each acknowledged call stands in it once, in its caller's order.
+-- What a merged history owes to the callers: each acknowledged call is in it once, in its caller's order.
 use Rattle.std.specs.Prelude.{◌≡◌, ℕ, ◌+◌, ◌<◌, ◌==◌, List, [], ◌∷◌, ◌++◌, length, ⊤, true, false, ◌&&◌, Option, Some, None, map, filter, slice_get, All}
 use Rattle.rk_types.specs.declared.call.Call.{Call}
 use Rattle.rk_types.specs.declared.call.Outcome.{Outcome}
@@ -19,12 +19,12 @@ pub record Answered : Type 0 where
   pub outcome : Outcome
   pub stamp : ℕ
 
--- the answer that a receipt tells
+-- the answer that a receipt records
 abbrev pub told_by : Receipt → Answered
 told_by receipt =
     record { lane = receipt.lane; call = receipt.call; outcome = receipt.outcome; stamp = receipt.stamp }
 
--- the answer that a line of the history tells
+-- the answer that a line of the history records
 abbrev pub answer_of : Line → Answered
 answer_of line =
     record { lane = line.lane; call = line.placed.call; outcome = line.placed.outcome; stamp = line.placed.stamp }
@@ -59,7 +59,7 @@ pub record IsOrdered (journals : List (List Placed)) (history : List Line) (call
   pub recorded : (client : ℕ) → All (IsRecorded journals) (callers client).receipts
   -- the accepted records of a caller, in the order of the history, are its receipts in order of seq
   pub answered : (client : ℕ) → map answer_of (accepted_by client history) ≡ map told_by (callers client).receipts
-  -- no mutation stands in the history twice
+  -- no mutation is in the history twice
   pub once :
       (i j : ℕ) (a b : Line) → slice_get history i ≡ Some a → slice_get history j ≡ Some b
       → AreOneMutation a.placed.call b.placed.call → i ≡ j
@@ -86,7 +86,7 @@ pub record IsAnswered (journals : List (List Placed)) (before after : ℕ → Ca
   -- all that was recorded of its caller is accepted, and this is its next call
   pub settled : IsSettled placed.call.client (merged journals)
   pub next : placed.call.seq ≡ length (before placed.call.client).receipts + 1
-  -- the receipt tells the record and its place
+  -- the receipt gives the record and its place
   pub told : told_by receipt ≡ answer_of (record { lane = lane; placed = placed })
   pub place : receipt.place ≡ length (journal_of journals lane)
   -- the caller keeps that receipt too, and has no call outstanding

@@ -1,4 +1,4 @@
-// A history, walked from its first record, against what stands at each key so far.
+// A history, walked from its first record, against what is at each key so far.
 ghost use Rattle.std.specs.Prelude.{◌≡◌, IfOk, OnOk, MatchOption};
 ghost use Rattle.std.specs.Bool.{Decides};
 ghost use Rattle.std.specs.Option.{option_map};
@@ -10,7 +10,7 @@ use rk_types::{Key, NoMemory, Op, Outcome, Placed, Value};
 use std::alloc::Global;
 use std::collections::BTreeMap;
 
-/// What stands at a key: nothing so far, a record with its version and value, or the version of its removal.
+/// What is at a key: nothing so far, a record with its version and value, or the version of its removal.
 #[derive(Clone, Copy)]
 enum Standing<'a> {
     Never,
@@ -18,11 +18,11 @@ enum Standing<'a> {
     Gone(u64),
 }
 
-/// What stands at each key of each table that a record changed.
+/// What is at each key of each table that a record changed.
 type Standings<'a> = BTreeMap<(u64, &'a Key), Standing<'a>>;
 
 impl<'a> Standing<'a> {
-    // The version that was given last, 0 where none was.
+    // The version that was given last, 0 if none was.
     fn last_version(&self) -> u64
         ensures { result ≡ last_version_lem (entry_of self.now) }
     {
@@ -32,7 +32,7 @@ impl<'a> Standing<'a> {
         }
     }
 
-    // The version of the record that is there, 0 where none is.
+    // The version of the record that is there, 0 if none is.
     fn live_version(&self) -> u64
         ensures { result ≡ live_version_lem (entry_of self.now) }
     {
@@ -42,7 +42,7 @@ impl<'a> Standing<'a> {
         }
     }
 
-    // Whether a read tells this.
+    // Whether a read returns this.
     fn is_told_by(&self, outcome: &Outcome) -> bool
         ensures { Decides result (outcome.now ≡ read_of (entry_of self.now)) }
     {
@@ -105,7 +105,7 @@ fn is_deleted_above(last: u64, outcome: &Outcome) -> bool
     }
 }
 
-// Whether this is a refusal that tells that live version.
+// Whether this is a refusal that names that live version.
 fn is_mismatch(live: u64, outcome: &Outcome) -> bool
     ensures { Decides result (outcome.now ≡ Outcome.Mismatch live) }
 {
@@ -115,7 +115,7 @@ fn is_mismatch(live: u64, outcome: &Outcome) -> bool
     }
 }
 
-// What the operation with this outcome leaves at its key; none where what is there stays.
+// What the operation with this outcome leaves at its key; none if what is there stays.
 fn change<'a>(op: &'a Op, outcome: &Outcome) -> Option<Standing<'a>>
     ensures { option_map entry_of result ≡ change_of op.now outcome.now }
 {
@@ -132,7 +132,7 @@ fn change<'a>(op: &'a Op, outcome: &Outcome) -> Option<Standing<'a>>
     }
 }
 
-// What stands at a key of a table.
+// What is at a key of a table.
 fn standing_at<'a>(standings: &Standings<'a>, table: u64, key: &'a Key) -> Standing<'a>
     ensures { (map : Map) → StandsFor standings.now map → entry_of result ≡ map table key.now }
 {
@@ -142,7 +142,7 @@ fn standing_at<'a>(standings: &Standings<'a>, table: u64, key: &'a Key) -> Stand
     }
 }
 
-// Lets that stand at a key of a table.
+// Sets what is at a key of a table.
 fn set<'a>(
     standings: &mut Standings<'a>,
     table: u64,
@@ -168,11 +168,11 @@ fn take_in<'a>(standings: &mut Standings<'a>, placed: &'a Placed) -> Result<(), 
     Ok(())
 }
 
-/// None exactly where the history is legal from the empty map, and else the place, counted from 0, of the first record
-/// that is not allowed after those before it. `NoMemory` may come in place of either.
+/// None exactly when the history is legal from the empty map, and otherwise the place, counted from 0, of the first
+/// record that is not allowed after those before it. `NoMemory` may come in place of either.
 ///
-/// The call walks the history once and copies no key and no value. A record costs one look-up, and one insertion where
-/// it changes its key, in a tree of the keys that were changed so far.
+/// The call walks the history once and copies no key and no value. A record costs one look-up, and one insertion if it
+/// changes its key, in a tree of the keys that were changed so far.
 pub fn replays(alloc: Global, history: &[Placed]) -> Result<Option<u64>, NoMemory>
     ensures { IfOk result (λ wrong. MatchOption wrong (IsLegal empty_map history.now) (IsFirstWrong history.now)) }
 {

@@ -47,7 +47,7 @@ is_listed calls call = list_any (λ listed. listed == call) calls
 abbrev pub fails_next : SinkState → Bool
 fails_next sink = is_listed sink.failing (one_more sink.calls)
 
--- how many of so many bytes the sink's next call takes, where it does not fail: as many as it may and has room for
+-- how many of so many bytes the sink's next call takes, if it does not fail: as many as it may and has room for
 abbrev pub taken_of : SinkState → ℕ → ℕ
 taken_of sink count =
     if is_listed sink.idle (one_more sink.calls) then 0

@@ -1,4 +1,4 @@
--- First parts of bytes: what was written of a text, or read of an input, where a call ended before the whole.
+-- First parts of bytes: what was written of a text, or read of an input, when a call ended before the whole.
 use Rattle.std.specs.Prelude.{ℕ, ◌≡◌, ◌≤◌, List, ◌++◌, length, Option}
 use Rattle.std.specs.Io.KnownBytes.{Appends, Consumes}
 

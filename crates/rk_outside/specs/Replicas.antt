@@ -65,7 +65,7 @@ IsUnwritten segments = (master segment : ℕ) → segments master segment ≡ No
 abbrev pub fails_next : ReplicaState → Bool
 fails_next replica = is_listed replica.failing (one_more replica.calls)
 
--- a call fails exactly where it is to fail; want of memory may stand in place of either answer
+-- a call fails exactly when it is to fail; want of memory may come in place of either answer
 abbrev pub FailsWhere : {T : Type 0} → Bool → Result T Lost → Type 0
 FailsWhere fails (Ok _) = fails ≡ false
 FailsWhere fails (Err Failed) = fails ≡ true
@@ -76,7 +76,7 @@ abbrev pub with_appended : SegmentMap → ℕ → ℕ → List ℕ → SegmentMa
 with_appended written master segment bytes =
     insert written (master, segment) (bytes_of (get written (master, segment)) ++ bytes)
 
--- segments with what a failed append kept of its bytes; where it kept none, they are as they were
+-- segments with what a failed append kept of its bytes; if it kept none, they are as they were
 abbrev pub with_kept : SegmentMap → ℕ → ℕ → List ℕ → SegmentMap
 with_kept written master segment [] = written
 with_kept written master segment (byte ∷ bytes) = with_appended written master segment (byte ∷ bytes)

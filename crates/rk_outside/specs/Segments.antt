@@ -3,7 +3,7 @@ use Rattle.std.specs.Prelude.{ℕ, ◌+◌, ◌≡◌, ◌≢◌, ◌≤◌, ◌
 use Rattle.rk_outside.specs.declared.replica.Lost.{Lost}
 use Rattle.rk_outside.specs.declared.replica.Lost.TheVariants.{Failed, NoMemory}
 
--- the bytes of each segment, none where it was never written
+-- the bytes of each segment, none if it was never written
 abbrev pub Segments : Type 0
 Segments = ℕ → ℕ → Option (List ℕ)
 
@@ -11,11 +11,11 @@ Segments = ℕ → ℕ → Option (List ℕ)
 abbrev pub Lengths : Type 0
 Lengths = ℕ → ℕ → ℕ
 
--- the bytes that a segment holds; one that was never written holds none
+-- the bytes that a segment holds; a segment that was never written holds none
 abbrev pub bytes_of : Option (List ℕ) → List ℕ
 bytes_of stored = unwrap_or stored []
 
--- the lengths of told segments
+-- the lengths of shown segments
 abbrev pub lengths_of : Segments → Lengths
 lengths_of segments master segment = length (bytes_of (segments master segment))
 
@@ -23,7 +23,7 @@ lengths_of segments master segment = length (bytes_of (segments master segment))
 abbrev pub with_bytes : Option (List ℕ) → List ℕ → Option (List ℕ)
 with_bytes stored bytes = Some (bytes_of stored ++ bytes)
 
--- a segment with what a failed append left of its bytes; where nothing was left, it stays as it was
+-- a segment with what a failed append left of its bytes; if nothing was left, it stays as it was
 abbrev pub with_part : Option (List ℕ) → List ℕ → Option (List ℕ)
 with_part stored [] = stored
 with_part stored (byte ∷ bytes) = with_bytes stored (byte ∷ bytes)
@@ -37,7 +37,7 @@ pub record ChangesAt {X : Type 0} (master segment : ℕ) (value : X) (old new : 
 abbrev pub IsSame : {X : Type 0} → (ℕ → ℕ → X) → (ℕ → ℕ → X) → Type 0
 IsSame old new = (m s : ℕ) → new m s ≡ old m s
 
--- told segments stay told and change so; of segments that are not told nothing is said
+-- shown segments stay shown and change so; of segments that are not shown nothing is said
 abbrev pub WhereTold : (Segments → Segments → Type 0) → Option Segments → Option Segments → Type 0
 WhereTold Change None new = ⊤
 WhereTold Change (Some old) None = ⊥

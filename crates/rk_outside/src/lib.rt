@@ -1,9 +1,9 @@
 //! The outside of a cluster: where a script comes from, where its answers go, where backups keep
 //! their segments, and where a test can hold up a thread; each with doubles in memory.
 //!
-//! It stands on rk_types. Each trait counts its faults: the count never falls, and an
-//! error comes only where it rose, so that nobody can blame the outside for a fault of their own.
-//! Reading a whole input and writing a whole text are two loops here, proved once for all crates above.
+//! It builds on rk_types. Each trait counts its faults: the count never falls, and an error comes only
+//! if it rose, so that nobody can blame the outside for a fault of their own. Reading a whole input
+//! and writing a whole text are two loops here, proved once for all crates above.
 #![tactic(auto)]
 
 mod fault;

@@ -11,7 +11,7 @@ use rk_types::SEGMENT_BYTES;
 use std::alloc::Global;
 use std::marker::Model;
 
-/// A replica that keeps its segments in memory, and fails where a test wants it to. It tells its
+/// A replica that keeps its segments in memory, and fails when a test wants it to. It shows its
 /// segments.
 #[derive(Drop)]
 pub struct MemoryReplica<'a> {
@@ -38,7 +38,7 @@ impl<'a> Model for MemoryReplica<'a> {
     } };
 }
 
-// The first bytes, so many, or all where there are fewer.
+// The first bytes, so many, or all if there are fewer.
 fn front(bytes: &[u8], count: usize) -> &[u8]
     ensures { result.now ≡ take count bytes.now }
 {
@@ -72,7 +72,7 @@ impl<'a> MemoryReplica<'a> {
         replica
     }
 
-    /// The same replica, whose failing appends keep so many of their first bytes, or all where they
+    /// The same replica, whose failing appends keep so many of their first bytes, or all if they
     /// have fewer.
     pub fn keeping(self, count: usize) -> MemoryReplica<'a>
         ensures { result ≡ record self.entry { kept = count } }

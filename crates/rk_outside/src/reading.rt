@@ -51,9 +51,9 @@ fn zeros(alloc: Global, count: usize) -> Result<Vec<u8>, AllocError>
 }
 
 /// Reads all that the source has left, which is to be at most `limit` bytes, in pieces of at most
-/// `PIECE` bytes. `TooLong` comes where more than `limit` bytes came: reading stops there, so that
-/// never more than `limit` bytes and one piece are held. `Failed` comes only where the source's count
-/// of faults rose, and elsewhere the count stays; `NoMemory` comes for want of memory. After a refusal
+/// `PIECE` bytes. `TooLong` comes if more than `limit` bytes came: reading stops there, so that never
+/// more than `limit` bytes and one piece are held. `Failed` comes only if the source's count of
+/// faults rose, and otherwise the count stays; `NoMemory` comes for want of memory. After a refusal
 /// the bytes that were read are gone.
 pub fn read_all<S: Source>(
     alloc: Global,

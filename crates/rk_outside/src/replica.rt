@@ -26,16 +26,16 @@ impl From<AllocError> for Lost {
 }
 
 /// Segments of bytes, by the number of a master and of a segment, which grow at their end alone. A
-/// replica always tells the lengths of its segments, it may tell their bytes, and it counts its
+/// replica always shows the lengths of its segments, it may show their bytes, and it counts its
 /// faults.
 pub trait Replica {
     ghost use Rattle.rk_outside.specs.Losses.{HasLossCause};
     ghost use Rattle.rk_outside.specs.Segments.{Segments, Lengths, bytes_of, lengths_of, WhereTold, IsSame, Stores, Lengthens, GrowsAtMost};
 
-    /// The length in bytes of each segment, by master and number; 0 where it was never written.
+    /// The length in bytes of each segment, by master and number; 0 if it was never written.
     ghost lengths: { Self → Lengths };
 
-    /// The bytes of each segment, or `None` where the replica does not tell.
+    /// The bytes of each segment, or `None` if the replica does not show them.
     ghost segments: { Self → Option Segments };
 
     /// How often it failed so far. It never falls, and stops at 2^64 - 1.
@@ -62,7 +62,7 @@ pub trait Replica {
 
     /// Appends the bytes of the segment to `into`, at most `SEGMENT_BYTES`, and answers whether it was
     /// ever written. No segment changes. After a refusal `into` is as it was; `Failed` comes only
-    /// where the count of faults rose, and else it stays.
+    /// if the count of faults rose, and otherwise it stays.
     fn read(
         &mut self,
         alloc: Global,
@@ -81,13 +81,13 @@ pub trait Replica {
         ensures segments { WhereTold IsSame (segments self.old) (segments self.new) }
         ensures cause { HasLossCause (faults self.old) (faults self.new) result };
 
-    /// The length of the segment in bytes, at most `SEGMENT_BYTES`; 0 where it was never written. It
+    /// The length of the segment in bytes, at most `SEGMENT_BYTES`; 0 if it was never written. It
     /// takes no memory.
     fn length(&self, master: u8, segment: u32) -> u32
         ensures value { result ≡ lengths self.now master segment }
         ensures most { result ≤ SEGMENT_BYTES };
 
-    /// Where the bytes are told, the lengths are theirs.
+    /// If the bytes are shown, the lengths are theirs.
     ghost agrees: { (replica : Self) (master segment : ℕ) → IfSome (segments replica) (λ told.
         lengths replica master segment ≡ lengths_of told master segment) };
 }

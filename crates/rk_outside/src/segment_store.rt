@@ -78,7 +78,7 @@ impl SegmentStore {
         }
     }
 
-    /// The bytes of a segment; None where it was never written.
+    /// The bytes of a segment; None if it was never written.
     pub(crate) fn get(&self, master: u8, segment: u32) -> Option<&[u8]>
         ensures value { option_map (λ bytes. bytes.now) result ≡ get self.now (master, segment) }
         ensures most { IfSome result (λ bytes. length bytes.now ≤ SEGMENT_BYTES) }

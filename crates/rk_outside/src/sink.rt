@@ -10,25 +10,25 @@ use crate::fault::Failed;
 use std::alloc::{AllocError, Global};
 use std::marker::Model;
 
-/// Output that is taken in pieces. It may tell the bytes that were written, and it counts its
+/// Output that is taken in pieces. It may show the bytes that were written, and it counts its
 /// faults.
 pub trait Sink {
-    /// The bytes that were written so far, or `None` where the sink does not tell.
+    /// The bytes that were written so far, or `None` if the sink does not show them.
     ghost written: { Self → Option (List ℕ) };
 
     /// How often it failed so far. It never falls, and stops at 2^64 - 1.
     ghost faults: { Self → ℕ };
 
-    /// Writes the first bytes of `piece`, and answers how many they are. `Failed` comes only where the
+    /// Writes the first bytes of `piece`, and answers how many they are. `Failed` comes only if the
     /// count of faults rose in this call, and then nothing was written. So does 0 for a piece that has
-    /// bytes. Elsewhere the count stays.
+    /// bytes. Otherwise the count stays.
     fn put(&mut self, piece: &[u8]) -> Result<usize, Failed>
         ensures within { WritesAtMost result piece.now }
         ensures bytes { WriteAppends (written self.old) (written self.new) result piece.now }
         ensures cause { HasPutCause (faults self.old) (faults self.new) result piece.now };
 }
 
-/// A sink in memory, for tests. It tells its bytes, and its memory is taken when it is made.
+/// A sink in memory, for tests. It shows its bytes, and its memory is taken when it is made.
 #[derive(Drop)]
 pub struct MemorySink<'a> {
     bytes: Vec<u8>,
@@ -119,7 +119,7 @@ impl<'a> MemorySink<'a> {
         self.faults
     }
 
-    // How many of so many bytes the next call takes, where it does not fail.
+    // How many of so many bytes the next call takes, if it does not fail.
     fn taken(&self, count: usize) -> usize
         ensures { result ≡ taken_of self.now count }
     {

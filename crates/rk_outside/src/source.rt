@@ -9,18 +9,18 @@ ghost use Rattle.rk_outside.specs.Memory.{new_source, is_listed};
 use crate::fault::Failed;
 use std::marker::Model;
 
-/// Input that is handed over in pieces. It may tell the bytes that are left, and it counts its
+/// Input that is handed over in pieces. It may show the bytes that are left, and it counts its
 /// faults.
 pub trait Source {
-    /// The bytes that are left to hand over, or `None` where the source does not tell.
+    /// The bytes that are left to hand over, or `None` if the source does not show them.
     ghost left: { Self → Option (List ℕ) };
 
     /// How often it failed so far. It never falls, and stops at 2^64 - 1.
     ghost faults: { Self → ℕ };
 
     /// Hands over the next bytes at the front of `into`, and answers how many they are: 0 at the end
-    /// of the input alone. `Failed` comes only where the count of faults rose in this call, and then
-    /// nothing was handed over; else the count stays. What stands in `into` past the count is free.
+    /// of the input alone. `Failed` comes only if the count of faults rose in this call, and then
+    /// nothing was handed over; otherwise the count stays. What `into` holds past the count is free.
     fn next(&mut self, into: &mut [u8]) -> Result<usize, Failed>
         requires { 0 < length into.old }
         ensures within { ReadsAtMost result into.new }
@@ -28,7 +28,7 @@ pub trait Source {
         ensures cause { HasCause (faults self.old) (faults self.new) result };
 }
 
-/// A source in memory, for tests. It tells its bytes.
+/// A source in memory, for tests. It shows its bytes.
 #[derive(Drop)]
 pub struct MemorySource<'a> {
     left: &'a [u8],

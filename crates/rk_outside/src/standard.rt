@@ -1,5 +1,5 @@
-// Sources and sinks over std's readers and writers. They pass on what their device tells; std's standard
-// streams tell nothing, and are the trusted edge.
+// Sources and sinks over std's readers and writers. They pass on what their device shows; std's standard
+// streams show nothing, and are the trusted edge.
 ghost use Rattle.std.specs.Prelude.{ℕ, ◌≡◌};
 ghost use Rattle.std.specs.Io.{ReadsAtMost, WritesAtMost};
 ghost use Rattle.std.specs.Io.KnownBytes.{ReadConsumes, WriteAppends};
@@ -10,7 +10,7 @@ use crate::source::Source;
 use std::io::{ErrorKind, Read, Write};
 use std::marker::Model;
 
-/// A source over a reader of std. It tells what the reader tells, which is nothing at a file or a
+/// A source over a reader of std. It shows what the reader shows, which is nothing for a file or a
 /// stream of the system.
 #[derive(Drop)]
 pub struct StdSource<R> {
@@ -42,7 +42,7 @@ impl<R> StdSource<R> {
     }
 }
 
-// One read, tried again where a signal interrupted it.
+// One read, tried again when a signal interrupted it.
 fn read_retrying<R: Read>(reader: &mut R, into: &mut [u8]) -> Result<usize, Failed>
     ensures within { ReadsAtMost result into.new }
     ensures bytes { ReadConsumes (R.remaining reader.old) (R.remaining reader.new) result into.new }
@@ -76,7 +76,7 @@ impl<R: Read> Source for StdSource<R> {
     }
 }
 
-/// A sink over a writer of std. It tells what the writer tells, which is nothing at a file or a
+/// A sink over a writer of std. It shows what the writer shows, which is nothing for a file or a
 /// stream of the system. It does not flush.
 #[derive(Drop)]
 pub struct StdSink<W> {
@@ -108,7 +108,7 @@ impl<W> StdSink<W> {
     }
 }
 
-// One write, tried again where a signal interrupted it.
+// One write, tried again when a signal interrupted it.
 fn write_retrying<W: Write>(writer: &mut W, piece: &[u8]) -> Result<usize, Failed>
     ensures within { WritesAtMost result piece.now }
     ensures bytes { WriteAppends (W.contents writer.old) (W.contents writer.new) result piece.now }

@@ -7,7 +7,7 @@ ghost use Rattle.rk_outside.specs.Parts.{AppendsPart};
 use crate::fault::Failed;
 use crate::sink::Sink;
 
-/// Writes all of `bytes`: what a put leaves is put again. `Failed` comes only where the sink's count of
+/// Writes all of `bytes`: what a put leaves is put again. `Failed` comes only if the sink's count of
 /// faults rose, which it does at a put that takes nothing too, and then some first part of them was
 /// written.
 pub fn put_all<K: Sink>(sink: &mut K, bytes: &[u8]) -> Result<(), Failed>

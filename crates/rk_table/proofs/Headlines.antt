@@ -54,8 +54,8 @@ pub live_items_of_a_range_are_in_order : (range : Range) (items : List Held) →
 live_items_of_a_range_are_in_order = Rattle.rk_table.proofs.Changes.order_live
 
 -- What a scan has passed at a token and what is left there are the items, for every token and every limit. One scan
--- hands out the first of what is left, at least one item where there is one, and leaves the others at the next token,
--- which is the end exactly where none is left.
+-- hands out the first of what is left, at least one item if there is one, and leaves the others at the next token,
+-- which is the end exactly when none is left.
 pub passed_and_left_are_the_items : (token : Token) (items : List Held) → IsInScanOrder items
     → passed token items ++ left token items ≡ items
 passed_and_left_are_the_items = Rattle.rk_table.proofs.Tokens.law_whole

@@ -13,7 +13,7 @@ is_at table key item = item.table == table && bytes_eq item.key key
 abbrev pub found : ℕ → List ℕ → List Held → Option Held
 found table key items = find (is_at table key) items
 
--- whether an item is newer than the one that is there; where none is there, it is
+-- whether an item is newer than the item that is there; if none is there, it is
 abbrev pub is_newer : Held → Option Held → Bool
 is_newer item None = true
 is_newer item (Some old) = nat_lt old.version item.version
@@ -23,7 +23,7 @@ abbrev pub with_item : Held → List Held → List Held
 with_item item items =
     filter (λ other. is_before other item) items ++ item ∷ filter (λ other. is_before item other) items
 
--- the items after one was put: it stands at its place where it is newer than what was there, and else nothing changes
+-- the items after one was put: it is at its place if it is newer than what was there, and otherwise nothing changes
 abbrev pub with_newer : Held → List Held → List Held
 with_newer item items =
     if is_newer item (found item.table item.key items) then with_item item items else items

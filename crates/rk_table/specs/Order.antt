@@ -1,4 +1,4 @@
--- Scan order: the items of a table stand by bucket, then by hash, then by table, then by key.
+-- Scan order: the items of a table are sorted by bucket, then by hash, then by table, then by key.
 use Rattle.std.specs.Prelude.{ℕ, Bool, List}
 use Rattle.std.specs.declared.cmp.Ordering.{Ordering}
 use Rattle.std.specs.Ordering.{nat_cmp, on, then_cmp, is_lt}
@@ -7,7 +7,7 @@ use Rattle.std.specs.List.Sorted.{IsStrictlySortedBy}
 use Rattle.rk_types.specs.declared.held.Held.{Held}
 use Rattle.rk_types.specs.Hashing.{hash_of, bucket_of}
 
--- where an item stands: the bucket and the hash of its key, its table, and its key
+-- the place of an item: the bucket and the hash of its key, its table, and its key
 abbrev pub Place : Type 0
 Place = ℕ × ℕ × ℕ × List ℕ
 
@@ -42,6 +42,6 @@ item_cmp = on item_place place_cmp
 abbrev pub is_before : Held → Held → Bool
 is_before a b = is_lt (item_cmp a b)
 
--- each item comes before all those behind it, so no key of a table stands twice
+-- each item comes before all those behind it, so no key of a table is there twice
 abbrev pub IsInScanOrder : List Held → Type 0
 IsInScanOrder items = IsStrictlySortedBy item_cmp items

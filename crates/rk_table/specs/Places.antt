@@ -21,13 +21,13 @@ pub record IsCut (test : Held → Bool) (items : List Held) (cut : ℕ) : Type 0
   pub front : All (λ item. test item ≡ true) (take cut items)
   pub back : All (λ item. test item ≡ false) (drop cut items)
 
--- the item of a key of a table stands here, and another one with its key would take its place
+-- the item of a key of a table is here, and another one with its key would take its place
 pub record IsHere (table : ℕ) (key : List ℕ) (items : List Held) (here : ℕ) : Type 0 where
   pub within : here < length items
   pub value : HoldsAt (λ item. found table key items ≡ Some item) items here
   pub replaced : (new : Held) → new.table ≡ table → new.key ≡ key → with_item new items ≡ slice_set items here new
 
--- no item of a key of a table is there, and one would stand here
+-- no item of a key of a table is there, and an item of it would go here
 pub record IsGap (table : ℕ) (key : List ℕ) (items : List Held) (here : ℕ) : Type 0 where
   pub within : here ≤ length items
   pub absent : found table key items ≡ None

@@ -36,7 +36,7 @@ passed token items = before_bucket token.bucket items ++ take token.skip (of_buc
 abbrev pub left : Token → List Held → List Held
 left token items = drop token.skip (of_bucket token.bucket items) ++ behind_bucket token.bucket items
 
--- the shortest first part whose entries have at least so many bytes, at least one item; all items where none has
+-- the shortest first part whose entries have at least so many bytes, at least one item; all items if none has
 abbrev pub batch_of : ℕ → List Held → List Held
 batch_of limit [] = []
 batch_of limit (item ∷ items) =
@@ -50,7 +50,7 @@ batch_at token limit items = batch_of limit (left token items)
 abbrev pub rest_at : Token → ℕ → List Held → List Held
 rest_at token limit items = drop (length (batch_at token limit items)) (left token items)
 
--- the token that stands behind an item, where so many items of its bucket are passed
+-- the token behind an item, when so many items of its bucket are passed
 abbrev pub token_of : Option Held → List Held → Token
 token_of None done = first
 token_of (Some item) done = record { bucket = item_bucket item; skip = length (of_bucket (item_bucket item) done) }
@@ -59,7 +59,7 @@ token_of (Some item) done = record { bucket = item_bucket item; skip = length (o
 abbrev pub token_behind : List Held → Token
 token_behind done = token_of (last_or None done) done
 
--- the token behind a batch: the end where nothing is left, and else that behind all that is passed then
+-- the token behind a batch: the end if nothing is left, and otherwise that behind all that is passed then
 abbrev pub token_before : List Held → List Held → Token
 token_before [] done = end
 token_before (_ ∷ _) done = token_behind done

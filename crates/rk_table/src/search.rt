@@ -1,4 +1,4 @@
-// Where items stand among slots in scan order. Each call is one search.
+// Where items are among slots in scan order. Each call is one search.
 ghost use Rattle.std.specs.Prelude.{◌≡◌, ◌==◌, [], false, nat_lt, IfOk, IfErr, All};
 ghost use Rattle.rk_types.specs.Hashing.{bucket_of};
 ghost use Rattle.rk_table.specs.Order.{IsInScanOrder, item_bucket, item_hash};
@@ -15,7 +15,7 @@ pub(crate) fn count_before(slots: &[Slot], place: &Place<'_>) -> usize
     slots.partition_point(|slot| slot.place().cmp(place).is_lt())
 }
 
-/// How many items stand in the buckets before this one.
+/// How many items are in the buckets before this one.
 pub(crate) fn count_before_bucket(slots: &[Slot], bucket: u16) -> usize
     requires { IsInScanOrder slots.now }
     ensures { IsCut (λ item. nat_lt (item_bucket item) bucket) slots.now result }
@@ -23,7 +23,7 @@ pub(crate) fn count_before_bucket(slots: &[Slot], bucket: u16) -> usize
     slots.partition_point(|slot| slot.bucket() < bucket)
 }
 
-/// How many items have this hash, where none comes before the first place with it.
+/// How many items have this hash, given that none comes before the first place with it.
 pub(crate) fn count_with_hash(slots: &[Slot], hash: u64) -> usize
     requires order { IsInScanOrder slots.now }
     requires from_there { All (λ item. comes_before (bucket_of hash, hash, 0, []) item ≡ false) slots.now }
@@ -32,7 +32,7 @@ pub(crate) fn count_with_hash(slots: &[Slot], hash: u64) -> usize
     slots.partition_point(|slot| slot.hash() == hash)
 }
 
-/// Where the item of this key of this table stands, or else where it would.
+/// Where the item of this key of this table is, or else where it would be.
 pub(crate) fn find(slots: &[Slot], table: u64, key: &Key) -> Result<usize, usize>
     requires { IsInScanOrder slots.now }
     ensures here { IfOk result (IsHere table key.now slots.now) }

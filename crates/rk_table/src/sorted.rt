@@ -8,7 +8,7 @@ use crate::walk::{append_live, batch_end, has_live, passed_over, token_behind};
 use rk_types::{Held, Key, NoMemory, Range, Token};
 use std::alloc::Global;
 
-/// A table whose items stand in one sorted vector: a look-up is a binary search, and an insertion moves the items behind
+/// A table whose items are in one sorted vector: a look-up is a binary search, and an insertion moves the items behind
 /// it.
 #[derive(Drop)]
 pub struct SortedTable {

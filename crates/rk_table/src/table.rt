@@ -10,7 +10,7 @@ use rk_types::{BUCKETS, Held, Key, NoMemory, Range, Token};
 /// Where a scan begins.
 pub const FIRST: Token = Token { bucket: 0, skip: 0 };
 
-/// What a scan answers where nothing is left.
+/// What a scan answers when nothing is left.
 pub const END: Token = Token {
     bucket: BUCKETS,
     skip: 0,
@@ -25,7 +25,7 @@ pub trait RecordTable {
     /// How many more items there is room for.
     ghost spare: { Self → ℕ };
 
-    /// The item of this key of this table, a tombstone too, or none where there is no item of the key. One search.
+    /// The item of this key of this table, a tombstone too, or none if there is no item of the key. One search.
     fn get(&self, table: u64, key: &Key) -> Option<&Held>
         ensures { option_copied result ≡ found table key.now (items self.now) };
 
@@ -36,7 +36,7 @@ pub trait RecordTable {
         ensures no_less { spare self.old ≤ spare self.new }
         ensures same { items self.new ≡ items self.old };
 
-    /// Puts the item where its key is absent or has an older version, and answers whether it did; else it is dropped.
+    /// Puts the item if its key is absent or has an older version, and answers whether it did; otherwise it is dropped.
     /// It takes no memory, and needs room for one item. One search, and what an insertion takes.
     fn put_if_newer(&mut self, item: Held) -> bool
         requires { 0 < spare self.old }
@@ -51,7 +51,7 @@ pub trait RecordTable {
         ensures err { OnErr result (into.new.items ≡ into.old.items) };
 
     /// Appends duplicates of the live items of the range from the token on, in scan order, up to and with the first one
-    /// at which their entries have `limit` bytes, and answers the token behind them: `{1024, 0}` exactly where no live
+    /// at which their entries have `limit` bytes, and answers the token behind them: `{1024, 0}` exactly when no live
     /// item of the range is left. The table has fewer than 2^32 items. After `NoMemory` `into` is as it was. One search,
     /// and a step for each item from the token's bucket to the next live item of the range.
     fn scan(

@@ -9,7 +9,7 @@ use crate::search::count_before_bucket;
 use crate::slot::Slot;
 use rk_types::{Held, NoMemory, Range, Token};
 
-/// How many slots a scan passes over that begins at the token, where the first slot is in its bucket or behind it.
+/// How many slots a scan passes over that begins at the token, given that the first slot is in its bucket or behind it.
 pub(crate) fn passed_over(slots: &[Slot], range: &Range, from: &Token) -> usize
     requires order { IsInScanOrder slots.now }
     requires from_there { All (λ item. from.now.bucket ≤ item_bucket item) slots.now }
@@ -28,7 +28,7 @@ pub(crate) fn passed_over(slots: &[Slot], range: &Range, from: &Token) -> usize
     slots.len()
 }
 
-/// How many slots have the first batch of live items of the range; all where the batch does not reach its limit.
+/// How many slots have the first batch of live items of the range; all if the batch does not reach its limit.
 pub(crate) fn batch_end(slots: &[Slot], range: &Range, limit: u32) -> usize
     ensures within { result ≤ length slots.now }
     ensures batch { live_in range.now (take result slots.now) ≡ batch_of limit (live_in range.now slots.now) }

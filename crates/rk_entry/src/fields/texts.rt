@@ -8,7 +8,7 @@ use crate::fields::numbers::{put_u8, put_u32, read_u8, read_u32};
 use rk_types::{Key, LONGEST_KEY, TextError, Value};
 use std::alloc::Global;
 
-/// The length of a key, of one byte, and the bytes after it. One that no key has is `Bad(BAD_KEY)`.
+/// The length of a key, of one byte, and the bytes after it. A length that no key has is `Bad(BAD_KEY)`.
 #[tactic(auto, unfolding(crate::specs::Texts::read_key_length))]
 pub fn read_key_length(bytes: &[u8]) -> Result<(u8, &[u8]), DecodeError>
     ensures { Gives (λ x. (x.0, x.1.now)) result (read_key_length bytes.now) }

@@ -221,7 +221,7 @@ pub fn read_lookup(bytes: &[u8]) -> Result<(Lookup, &[u8]), DecodeError>
     Ok((Lookup { table, hash }, rest))
 }
 
-// The owner of a tablet, none where the number is 0.
+// The owner of a tablet, none if the number is 0.
 #[tactic(auto, unfolding(crate::specs::Calls::read_owner))]
 fn read_owner(bytes: &[u8]) -> Result<(Option<u8>, &[u8]), DecodeError>
     ensures { Gives (λ x. (x.0, x.1.now)) result (read_owner bytes.now) }

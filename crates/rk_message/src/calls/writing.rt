@@ -23,7 +23,7 @@ fn op_number(op: &Op) -> u8
     }
 }
 
-// Puts what stands after the key of a request at the end.
+// Puts what follows the key of a request at the end.
 fn put_op(into: &mut Vec<u8>, op: &Op)
     requires { HasRoom into.old (op_count op.now) }
     ensures { Gains into.old into.new (op_bytes op.now) (op_count op.now) }
@@ -130,7 +130,7 @@ pub fn put_located(into: &mut Vec<u8>, located: &Located)
     put_u8(into, located.owner.unwrap_or(0));
 }
 
-// How many bytes stand after the key of a request.
+// How many bytes follow the key of a request.
 fn op_len(op: &Op) -> u32
     requires { op_count op.now < 2 ^ 32 }
     ensures { result ≡ op_count op.now }
@@ -150,7 +150,7 @@ pub fn request_len(request: &Request) -> u32
     REQUEST_BYTES + request.key.bytes().len() as u32 + op_len(&request.op)
 }
 
-// How many bytes stand after the number of an answer.
+// How many bytes follow the number of an answer.
 fn told_len(answer: &Answer) -> u32
     requires { told_count answer.now < 2 ^ 32 }
     ensures { result ≡ told_count answer.now }

@@ -30,7 +30,7 @@ use rk_entry::{
 use rk_types::{LONGEST_KEY, LONGEST_VALUE};
 use std::alloc::Global;
 
-// Whether the fields of some lawful message of this kind take so many bytes, as far as their number alone tells.
+// Whether the fields of some lawful message of this kind take so many bytes, as far as their number alone shows.
 #[tactic(auto, unfolding(crate::specs::Frames::is_size))]
 fn is_size(kind: Kind, size: u32) -> bool
     ensures { result ≡ is_size kind size }
@@ -73,7 +73,7 @@ fn read_kind(bytes: &[u8]) -> Result<(Kind, &[u8]), DecodeError>
     Ok((kind, rest))
 }
 
-// Whether some lawful message of this kind has a body of so many bytes, as far as their number alone tells.
+// Whether some lawful message of this kind has a body of so many bytes, as far as their number alone shows.
 fn is_body_length(kind: Kind, body: u32) -> bool
     ensures { result ≡ is_body_length kind body }
 {
@@ -152,8 +152,8 @@ fn read_frame(alloc: Global, bytes: &[u8]) -> Result<(Message, &[u8]), DecodeErr
 }
 
 /// The message whose frame begins the bytes, and how many bytes the frame takes; any bytes may follow. `Cut` comes
-/// where the bytes end before the field that is being read is whole and every field before it is lawful, `Bad` where a
-/// field is whole and unlawful with those before it.
+/// if the bytes end before the field that is being read is whole and every field before it is lawful, `Bad` if a field
+/// is whole and unlawful with those before it.
 pub fn decode_frame(alloc: Global, bytes: &[u8]) -> Result<(Message, usize), DecodeError>
     // What is read is spelled so.
     ensures found { IfOk result (λ x. StandsFirst bytes.now x.0 x.1) }

@@ -1,4 +1,4 @@
-//! Entries within a frame, and those with which a body ends: the last of them tells how long the body is.
+//! Entries within a frame, and those with which a body ends: the last of them shows how long the body is.
 
 ghost use Rattle.std.specs.Prelude.{◌≡◌, ◌<◌, ◌^◌};
 ghost use Rattle.rk_entry.specs.Steps.{Gives};
@@ -13,7 +13,7 @@ use rk_entry::{
 use rk_types::Listed;
 use std::alloc::Global;
 
-/// Where the length of the key of an item stands: at the last byte before the key of a tombstone.
+/// Where the length of the key of an item is: at the last byte before the key of a tombstone.
 pub const KEY_LENGTH_PLACE: usize = (HEAD_BYTES + TOMBSTONE_BYTES - 1) as usize;
 
 /// An entry within a frame, and the bytes after it. An unlawful one is `Bad(BAD_CHOICE)`, whatever its own fault is.
@@ -29,7 +29,7 @@ pub fn read_entry_within(alloc: Global, bytes: &[u8]) -> Result<(Entry, &[u8]), 
     }
 }
 
-// How many bytes of an entry of this kind stand up to its last length or count, where its key has `key` bytes.
+// How many bytes an entry of this kind has up to its last length or count, if its key has `key` bytes.
 fn front_len(kind: Kind, key: u8) -> u32
     ensures { result ≡ front_length kind key }
 {
@@ -42,7 +42,7 @@ fn front_len(kind: Kind, key: u8) -> u32
     }
 }
 
-// The number, where the first `count` bytes of an entry are there and lawful.
+// The number, if the first `count` bytes of an entry are there and lawful.
 #[tactic(auto, unfolding(crate::specs::Pulling::where_front_is))]
 fn where_front_is(alloc: Global, count: u32, n: u64, bytes: &[u8]) -> Result<u64, DecodeError>
     ensures { Gives (λ x. x) result (where_front_is count n bytes.now) }
@@ -71,8 +71,8 @@ fn told_len(alloc: Global, bytes: &[u8]) -> Result<u64, DecodeError>
     where_front_is(alloc, front_len(kind, key), told, bytes)
 }
 
-// Finds out whether an entry tells of another length than `size` for the body that it ends, of which `before` bytes
-// stand before it.
+// Finds out whether an entry shows another length than `size` for the body that it ends, of which `before` bytes come
+// before it.
 fn check_told(alloc: Global, before: u64, size: u32, bytes: &[u8]) -> Result<(), DecodeError>
     ensures { Gives (λ x. x) result (where_none_other before size (told_length bytes.now)) }
 {
@@ -89,7 +89,7 @@ fn check_told(alloc: Global, before: u64, size: u32, bytes: &[u8]) -> Result<(),
     }
 }
 
-// The entry that ends a body of `size` bytes, of which `before` stand before it.
+// The entry that ends a body of `size` bytes, of which `before` come before it.
 #[tactic(auto, unfolding(crate::specs::Pulling::read_last_entry))]
 fn read_last_entry(
     alloc: Global,
@@ -146,7 +146,7 @@ fn read_ending(
 
 /// Entries after their count that end a body of `size` bytes, of which `first` are not theirs, and the bytes after
 /// them. An unlawful entry is `Bad(BAD_CHOICE)`. Another length of the body is `Bad(BAD_BODY_LENGTH)`, as soon as the
-/// last length or count of the last entry is read, or the count of entries where there are none.
+/// last length or count of the last entry is read, or the count of entries if there are none.
 #[tactic(auto, unfolding(crate::specs::Pulling::read_last_entries))]
 pub fn read_last_entries(
     alloc: Global,

@@ -21,7 +21,7 @@ pub fn read_pull(bytes: &[u8]) -> Result<(Pull, &[u8]), DecodeError>
 
 /// A Pulled of `size` bytes, and the bytes after it. An unlawful entry is `Bad(BAD_CHOICE)`. Another length than `size`
 /// is `Bad(BAD_BODY_LENGTH)`, as soon as the last length or count of the last entry is read, or the count of entries
-/// where there are none.
+/// if there are none.
 #[tactic(auto, unfolding(crate::specs::Pulling::read_pulled))]
 pub fn read_pulled(alloc: Global, size: u32, bytes: &[u8]) -> Result<(Pulled, &[u8]), DecodeError>
     ensures { Gives (λ x. (x.0, x.1.now)) result (read_pulled size bytes.now) }
@@ -64,7 +64,7 @@ fn read_hash_count(size: u32, bytes: &[u8]) -> Result<(u32, &[u8]), DecodeError>
 
 /// A Got of `size` bytes, and the bytes after it. A count of hashes that do not fit `size` is `Bad(BAD_BODY_LENGTH)`,
 /// an unlawful entry is `Bad(BAD_CHOICE)`. Another length than `size` is `Bad(BAD_BODY_LENGTH)`, as soon as the last
-/// length or count of the last entry is read, or the count of entries where there are none.
+/// length or count of the last entry is read, or the count of entries if there are none.
 #[tactic(auto, unfolding(crate::specs::Pulling::read_got))]
 pub fn read_got(alloc: Global, size: u32, bytes: &[u8]) -> Result<(Got, &[u8]), DecodeError>
     ensures { Gives (λ x. (x.0, x.1.now)) result (read_got size bytes.now) }

@@ -67,7 +67,7 @@ fn read_present(bytes: &[u8]) -> Result<(bool, &[u8]), DecodeError>
     Ok((present, rest))
 }
 
-// So many bytes of a segment, of which there are none where it was never written.
+// So many bytes of a segment, of which there are none if it was never written.
 #[tactic(auto, unfolding(crate::specs::Rebuilding::read_kept_bytes))]
 fn read_kept_bytes(
     alloc: Global,
@@ -87,7 +87,7 @@ fn read_kept_bytes(
     Ok((None, bytes))
 }
 
-// What a Copy of `size` bytes tells of its segment.
+// What a Copy of `size` bytes carries of its segment.
 #[tactic(auto, unfolding(crate::specs::Rebuilding::read_kept))]
 fn read_kept(
     alloc: Global,
@@ -102,7 +102,7 @@ fn read_kept(
 }
 
 /// A Copy of `size` bytes, and the bytes after it. A number that does not say whether the segment was ever written, and
-/// bytes of one that was not, are `Bad(BAD_CHOICE)`; a count of bytes that does not fit `size` is
+/// bytes of a segment that was not, are `Bad(BAD_CHOICE)`; a count of bytes that does not fit `size` is
 /// `Bad(BAD_BODY_LENGTH)`.
 #[tactic(auto, unfolding(crate::specs::Rebuilding::read_copy))]
 pub fn read_copy(
