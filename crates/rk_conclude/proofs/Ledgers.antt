@@ -1,4 +1,4 @@
--- What the ledgers of lanes in code have is what those of the cluster have that they stand for.
+-- What the ledgers of lanes in code have is what those of the cluster that they represent have.
 use Rattle.rk_conclude.proofs.Words.{arith, ◌≡◌, ℕ, List, [], ◌∷◌, Option, map, refl, sym, ap, ◌∙◌, sum_by, Segments, Ledger, World}
 use Rattle.rk_conclude.proofs.Words.{LaneState, AreWorlds}
 use Rattle.std.proofs.Common.{◌+◌}

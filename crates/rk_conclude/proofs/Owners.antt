@@ -1,4 +1,4 @@
--- The master that owns the tablet of a drive in all lanes, as lanes in code tell it.
+-- The master that owns the tablet of a drive in all lanes, as lanes in code report it.
 use Rattle.rk_conclude.proofs.Words.{arith, ◌≡◌, ℕ, Bool, List, [], ◌∷◌, Option, Some, None, slice_get, refl, ap, ◌∙◌, list_all, Segments}
 use Rattle.rk_conclude.proofs.Words.{World, LaneState, AreWorlds, LanesTell, is_owner, owner_at}
 use Rattle.std.proofs.Common.{cond}

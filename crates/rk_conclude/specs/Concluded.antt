@@ -23,7 +23,7 @@ use Rattle.rk_conclude.specs.Reports.{IsReport}
 abbrev pub settling : Cluster → List Fate → Course
 settling start fates = moved_all (course_of start (settle start)) fates
 
--- a cluster in code stands for what settling made of another one, by some fates, and what occurred leads there
+-- a cluster in code represents what settling made of another one, by some fates, and what occurred leads there
 pub record IsSettled {R : Type 0} (segments : R → Option Segments) (start : Cluster) (state : ClusterState R) (fates : List Fate) : Type 0 where
   pub is : IsOf segments state (settling start fates).cluster
   pub leads : RunsTo start (settling start fates).occurred (settling start fates).cluster
@@ -48,7 +48,7 @@ pub record StopsFor {R : Type 0} (segments : R → Option Segments) (start : Clu
   pub settled : IsSettled segments start state fates
   pub stops : error_of (settling start fates) ≡ Some error
 
--- the report of a cluster was written, with this status; nothing was where memory was wanting, and a first part of it where the sink failed
+-- the report of a cluster was written, with this status; nothing if memory was wanting, and a first part of it if the sink failed
 abbrev pub WritesReport : Bool → Option (List ℕ) → Option (List ℕ) → Status → Cluster → Type 0
 WritesReport history old new statuses.NoMemory cluster = new ≡ old
 WritesReport history old new statuses.WriteFault cluster =
@@ -72,7 +72,7 @@ MayEnd statuses.ReadFault = ⊥
 MayEnd statuses.Refused = ⊥
 MayEnd status = ⊤
 
--- the count of a sink's faults rose if the status tells of one, and else it is as it was
+-- the count of a sink's faults rose if the status reports one, and else it is as it was
 pub record HasSinkCause (status : Status) (before now : ℕ) : Type 0 where
   pub later : before ≤ now
   pub kept : (status ≡ statuses.WriteFault → ⊥) → now ≡ before

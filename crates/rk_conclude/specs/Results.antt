@@ -51,7 +51,7 @@ abbrev pub one_owner : List World → Option ℕ
 one_owner [] = None
 one_owner (first ∷ lanes) = owner_in_all (first ∷ lanes) (owner_at first)
 
--- what a drive came to; a count of calls that does not fit 64 bits is told as the greatest that does
+-- what a drive came to; a count of calls that does not fit 64 bits is given as the greatest that does
 abbrev pub summary_of : Cluster → Summary
 summary_of cluster = record {
   calls = min (asked_in cluster) (2 ^ 64 - 1);

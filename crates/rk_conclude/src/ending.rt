@@ -32,13 +32,13 @@ struct Ended<R> {
     status: Status,
 }
 
-/// Settles lanes and sessions that were gathered, holds the receipts against the journals, and writes the history, if that is asked for, the
-/// results, and what the audit found. The replicas of the lanes are put back before those that were kept, unless memory was wanting.
+/// Settles lanes and sessions that were gathered, holds the receipts against the journals, and writes the history, if that is asked for,
+/// the results, and what the audit found. The replicas of the lanes are put back before those that were kept, unless memory was wanting.
 ///
 /// `Done` comes if each receipt is recorded, and `Audit` if one is not; both are written whole. `WriteFault` comes if the sink failed: a
-/// prefix of the text was written. `Worn` and `ReplicaFault` come where settling stops so; then, and if memory was wanting, nothing was
-/// written. The sink's count of faults rises if the status is `WriteFault`, and else stays. Unless memory was wanting, as many replicas come
-/// back as a run has.
+/// prefix of the text was written. `Worn` and `ReplicaFault` come if settling stops so; then, and if memory was wanting, nothing was
+/// written. The sink's count of faults rises if the status is `WriteFault`, and else stays. Unless memory was wanting, as many replicas
+/// come back as a run has.
 ///
 /// No count of faults of a replica that comes back falls, and `ReplicaFault` comes only after a hundred rounds in each of which one rose.
 pub fn conclude<K: Sink, R: Replica + Drop>(

@@ -89,7 +89,7 @@ fn push_audit(
     }
 }
 
-// The record that stands where a receipt says, if there is one.
+// The record at the place that a receipt names, if there is one.
 fn record_of<'a>(receipt: &Receipt, journals: &[&'a [Placed]]) -> Option<&'a Placed>
     ensures { option_copied result ≡ slice_get (journal_of (journals_behind journals.now) receipt.now.lane) receipt.now.place }
 {

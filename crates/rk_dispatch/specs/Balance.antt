@@ -10,7 +10,7 @@ use Rattle.rk_dispatch.specs.declared.account.Account.{Account}
 abbrev pub is_same : Parcel → Parcel → Bool
 is_same a b = (a.lane == b.lane) && (a.number == b.number)
 
--- how often a parcel stands in a list
+-- how often a parcel occurs in a list
 abbrev pub times : Parcel → List Parcel → ℕ
 times parcel parcels = count_by (is_same parcel) parcels
 

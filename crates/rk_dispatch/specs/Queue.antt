@@ -22,7 +22,7 @@ capacity_of parcels = ruled_capacity parcels.queue
 abbrev pub account_of : ParcelPass → Account
 account_of pass = view pass
 
--- at one moment of the call the queue was full, or empty; an account that has all parts tells of what was in it then
+-- at one moment of the call the queue was full, or empty; an account that has all parts records what was in it then
 abbrev pub WasFull : Parcels → Account → Type 0
 WasFull parcels a = Held (capacity_of parcels) (IsLeft a)
 

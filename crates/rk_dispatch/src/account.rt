@@ -41,7 +41,7 @@ impl Join<Account> for Parts {
     ghost spent = { nothing };
 }
 
-/// A parcel was given. Where the queue is full, the pass with all parts learns what is in it.
+/// A parcel was given. If the queue is full, the pass with all parts learns what is in it.
 pub struct Gives;
 
 impl Outcome<Parcel, Account> for Gives {
@@ -57,7 +57,7 @@ impl Lesson<Parcel, Account> for Gives {
     ghost fact = { IsLeft };
 }
 
-/// A parcel was taken. Where the queue is empty, the pass with all parts learns that all was taken.
+/// A parcel was taken. If the queue is empty, the pass with all parts learns that all was taken.
 pub struct Takes;
 
 impl Outcome<Parcel, Account> for Takes {

@@ -39,7 +39,7 @@ impl Parcels {
         self.queue.capacity()
     }
 
-    /// Gives a parcel. It is handed back, and nothing is given, only where the queue was full at a moment of the call.
+    /// Gives a parcel. It is handed back, and nothing is given, only if the queue was full at a moment of the call.
     pub fn give<R: Wait>(&self, rt: &R, pass: &mut ParcelPass, parcel: Parcel) -> Result<(), Parcel>
         requires queue { IsOf self.now pass.old }
         requires part { 0 < (account_of pass.old).parts }
@@ -51,7 +51,7 @@ impl Parcels {
         self.queue.push_as::<Gives, R>(rt, pass, parcel)
     }
 
-    /// Takes the oldest parcel. There is none, and nothing is taken, only where the queue was empty at a moment of the call.
+    /// Takes the oldest parcel. There is none, and nothing is taken, only if the queue was empty at a moment of the call.
     pub fn take<R: Wait>(&self, rt: &R, pass: &mut ParcelPass) -> Option<Parcel>
         requires queue { IsOf self.now pass.old }
         requires part { 0 < (account_of pass.old).parts }

@@ -186,7 +186,7 @@ fn give_all<R: Wait>(
     given
 }
 
-// Gives parcels one after the other; where the queue is full it tries again, unless a taker found no memory.
+// Gives parcels one after the other; if the queue is full, it tries again, unless a taker found no memory.
 fn give_each<R: Wait>(
     rt: &R,
     parcels: &Parcels,

@@ -8,7 +8,7 @@ use Rattle.rk_world.specs.Ledger.{Ledger, asked_by, is_added, new_ledger}
 use Rattle.rk_world.specs.declared.event.Event.{Event}
 use Rattle.rk_world.specs.declared.event.Event.TheVariants as events
 
--- a lane where nothing happened, with so many masters and backups
+-- a lane in which nothing has happened, with so many masters and backups
 pub record IsFresh {R : Type 0} (masters backups : ℕ) (lane : LaneState R) : Type 0 where
   pub masters_are : lane.masters ≡ masters
   pub backups_are : length lane.backups ≡ backups
@@ -39,7 +39,7 @@ pub record IsAskedAlike (before after : Ledger) : Type 0 where
 abbrev pub KeepsUnasked : Event → Ledger → Ledger → Type 0
 KeepsUnasked event before after = Begins event (IsAskedAlike before after)
 
--- whether a client is the one that an event adds
+-- whether an event adds this client
 abbrev pub is_new : Event → ℕ → Bool
 is_new (events.AddClient client) other = client == other
 is_new event other = false

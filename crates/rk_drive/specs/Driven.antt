@@ -25,8 +25,8 @@ pub record HasAnswers (calls : ℕ) (session : Session) : Type 0 where
   pub answered : session.outstanding ≡ None
   pub count : length session.receipts ≡ calls
 
--- the lanes and the sessions of so many clients, when each of their calls is answered; what is said of calls and worlds holds where this
--- is taken for granted of the replicas
+-- the lanes and the sessions of so many clients, when each of their calls is answered; what is said of calls and worlds holds if this is
+-- taken for granted of the replicas
 pub record AreDriven {R : Type 0} (segments : R → Option Segments) (tells : Type 0) (plan : Plan) (lanes : List (LaneState R)) (sessions : List Session) : Type 0 where
   pub numbers : numbers_of lanes ≡ range_with_len 0 LANES
   pub roster : All (IsOfRoster MASTERS BACKUPS (range_with_len 1 plan.clients)) lanes

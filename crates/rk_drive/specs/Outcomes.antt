@@ -20,7 +20,7 @@ use Rattle.rk_drive.specs.Driven.{IsDriven}
 use Rattle.rk_drive.specs.declared.plan.Plan.{Plan}
 use Rattle.rk_drive.specs.declared.start.TheConstants.{BACKUPS}
 
--- how a drive comes to its end where its clients have ended: their lanes and sessions are brought to rest, and the outcome is written
+-- how a drive ends once its clients have ended: their lanes and sessions are brought to rest, and the outcome is written
 pub record IsConcluded {R : Type 0} (segments : R → Option Segments) (plan : Plan) (old new : Option (List ℕ)) (before after : List R) (status : Status) : Type 0 where
   pub start : Cluster
   pub driven : IsDriven plan start
@@ -31,7 +31,7 @@ pub record IsCutShort (old new : Option (List ℕ)) (status : Status) : Type 0 w
   pub is : status ≡ statuses.NoMemory
   pub written : new ≡ old
 
--- what a drive comes to where replicas tell that nothing was written before it
+-- what a drive comes to if replicas report that nothing was written before it
 abbrev pub Drives : {R : Type 0} → (R → Option Segments) → Plan → Option (List ℕ) → Option (List ℕ) → List R → List R → Status → Type 0
 Drives segments plan old new before after status =
     AreEmpty segments before → IsCutShort old new status ⊎ IsConcluded segments plan old new before after status

@@ -5,7 +5,7 @@ use Rattle.rk_workload.specs.Workload.{call_of}
 use Rattle.rk_shared_lanes.specs.Passes.{PassState}
 use Rattle.rk_shared_lanes.specs.Together.{clients_of, sessions_of}
 
--- each call of a workload over so many keys is one that clients make
+-- each call of a workload over so many keys is a call that clients make
 abbrev pub MakesWorkload : (Call → Type 0) → ℕ → Type 0
 MakesWorkload makes keys = (client seq : ℕ) → makes (call_of keys client seq)
 

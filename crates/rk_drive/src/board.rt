@@ -1,4 +1,4 @@
-// What the workers of a drive tell each other.
+// What the workers of a drive report to each other.
 use crate::signal::Signal;
 use crossbeam_utils::CachePadded;
 use std::array;
@@ -37,7 +37,7 @@ impl LaneBoard {
     }
 }
 
-/// How far a drive has come, as its workers see it. What different workers write stands on cache lines of its own.
+/// How far a drive has come, as its workers see it. What different workers write is on cache lines of its own.
 #[derive(Drop)]
 pub(crate) struct Board {
     /// How many workers for clients have not ended.
@@ -49,8 +49,8 @@ pub(crate) struct Board {
     /// How many calls are answered.
     answered: CachePadded<AtomicU64>,
     lanes: [CachePadded<LaneBoard>; LANES],
-    /// For each client that waits for a turn of its call's lane, one more than the turns that the lane had taken when the client looked there
-    /// last; for others 0.
+    /// For each client that waits for a turn of its call's lane, one more than the turns that the lane had taken when the client looked
+    /// there last; for others 0.
     waiting: [CachePadded<AtomicU64>; CLIENTS],
     /// Rises with each call that is answered.
     pub(crate) news: CachePadded<Signal>,

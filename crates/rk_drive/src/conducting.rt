@@ -1,4 +1,4 @@
-// The conductor, who crashes a master where that is asked for.
+// The conductor, which crashes a master if that is asked for.
 ghost use Rattle.std.specs.Prelude.{◌≡◌, true};
 ghost use Rattle.rk_world.specs.Premises.{IsMaster};
 

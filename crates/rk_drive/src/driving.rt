@@ -41,8 +41,8 @@ use std::thread::Threads;
 /// How many parcels the queue takes.
 const QUEUE: usize = 64;
 
-/// Runs the clients of a plan on threads, while the table moves from master 1 to master 2, and writes the history, where the plan asks for
-/// it, and the summary. What holds where replicas tell that nothing was written before:
+/// Runs the clients of a plan on threads, while the table moves from master 1 to master 2, and writes the history, if the plan asks for
+/// it, and the summary. What holds if replicas report that nothing was written before:
 ///
 /// Once all clients have ended, their lanes and sessions come to rest, and the outcome is written and answered as `conclude` says; the
 /// replicas come back. On `Done` the receipts are those of the workload, and the lanes have one history with them, which has the answer of

@@ -1,7 +1,7 @@
-//! `drive`: clients make the calls of a workload on threads, while a tablet moves from one master to another, and a master crashes where that
+//! `drive`: clients make the calls of a workload on threads, while a tablet moves from one master to another, and a master crashes if that
 //! is asked for.
 //!
-//! It stands on `rk_shared_lanes`, whose lanes the workers share, on `rk_dispatch`, which hands pulled records to workers of their own, and
+//! It builds on `rk_shared_lanes`, whose lanes the workers share, on `rk_dispatch`, which hands pulled records to workers of their own, and
 //! on `rk_conclude`, which brings the lanes to rest in the end, audits the receipts and writes the outcome.
 #![tactic(auto)]
 

@@ -26,7 +26,7 @@ pub(crate) const MASTERS: u8 = 2;
 
 pub(crate) const BACKUPS: u8 = 2;
 
-/// The master that has the table at first, and the one that it moves to.
+/// The master that has the table at first, and the master that it moves to.
 const FIRST_OWNER: u8 = 1;
 
 const SECOND_OWNER: u8 = 2;
@@ -52,7 +52,7 @@ pub(crate) fn new_lanes<R: Replica + Drop>(
     Ok(lanes)
 }
 
-// Lanes over these replicas where nothing happened, lane 0 first.
+// Lanes over these replicas in which nothing has happened, lane 0 first.
 fn fresh_lanes<R: Replica + Drop>(alloc: Global, replicas: Vec<R>) -> Result<Vec<Lane<R>>, NoMemory>
     requires { length replicas.items ≡ LANES * BACKUPS }
     ensures numbers { IfOk result (λ lanes. numbers_of lanes.items ≡ range_with_len 0 LANES) }
@@ -85,7 +85,7 @@ fn numbered_sessions(alloc: Global, clients: u32) -> Result<Vec<Session>, NoMemo
     Ok(sessions)
 }
 
-// A lane where nothing happened gets the table, so many clients, and a migration that begins.
+// A lane in which nothing has happened gets the table, so many clients, and a migration that begins.
 fn prepared<R: Replica + Drop>(lane: Lane<R>, clients: u32) -> Result<Lane<R>, NoMemory>
     requires { IsFresh MASTERS BACKUPS lane }
     ensures number { IfOk result (λ prepared. prepared.number ≡ lane.number) }

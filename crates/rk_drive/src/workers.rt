@@ -30,7 +30,7 @@ pub(crate) enum Duty {
     Turns(ParcelPass, u8),
     /// It replays what was pulled.
     Replays(ParcelPass),
-    /// It conducts the drive: crashes a master where the plan asks for that.
+    /// It conducts the drive: crashes a master if the plan asks for that.
     Conduct,
 }
 

@@ -5,7 +5,7 @@ use Rattle.rk_types.specs.declared.history.Receipt.{Receipt}
 use Rattle.rk_model.specs.Ordered.{IsRecorded}
 use Rattle.rk_history.specs.declared.auditing.Disagree.{Disagree}
 
--- the record that a receipt tells
+-- the record that a receipt describes
 abbrev pub told_record : Receipt → Placed
 told_record receipt =
     record { call = receipt.call; outcome = receipt.outcome; stamp = receipt.stamp; accepted = true }

@@ -20,7 +20,7 @@ pub struct Disagree {
 }
 
 /// Whether each receipt is that of an accepted record: the one at its lane and place, with its call, its outcome and its
-/// stamp. The first journal is that of lane 0. `Disagree` comes exactly where some receipt is not so, and tells the first.
+/// stamp. The first journal is that of lane 0. `Disagree` comes exactly if some receipt is not so, and gives the first.
 ///
 /// Takes no memory. Each receipt costs one look, and the comparison of its call and outcome with those of the record.
 pub fn audit(receipts: &[Receipt], journals: &[&[Placed]]) -> Result<(), Disagree>

@@ -47,7 +47,7 @@ fn lend_again<'a>(alloc: Global, journals: &[&'a [Placed]]) -> Result<Vec<&'a [P
     Ok(lent)
 }
 
-// The record that comes first of all that are left, none where none is left. A look at each journal.
+// The record that comes first of all that are left, none if none is left. A look at each journal.
 fn first_of<'a>(rest: &[&'a [Placed]]) -> Option<First<'a>>
     ensures { IsFirstOf (journals_of rest.now) (length rest.now) result }
 {
@@ -88,7 +88,7 @@ fn add_line(history: &mut Vec<Line>, lane: u8, placed: &Placed) -> Result<(), No
     Ok(())
 }
 
-// Whether a record stands in the history: a read that no caller accepted does not.
+// Whether a record is in the history: a read that no caller accepted is not.
 fn is_kept(placed: &Placed) -> bool
     ensures { result ≡ is_kept_lem placed.now }
 {

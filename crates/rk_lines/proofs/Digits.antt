@@ -1,4 +1,4 @@
--- Numbers in decimal digits, alone and in pairs, are told apart.
+-- Decimal digits distinguish numbers, alone and in pairs.
 use Rattle.std.proofs.Common.{◌≡◌, ◌≢◌, ℕ, ◌<◌, ◌^◌, List, [], ◌∷◌, ◌++◌, sym, ◌∙◌, arith}
 use Rattle.std.specs.Prelude.{◌==◌, ◌&&◌, codes, decimal, bytes_eq}
 use Rattle.std.specs.Char.{digit_value}

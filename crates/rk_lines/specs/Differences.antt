@@ -13,12 +13,12 @@ answer_text stamp call outcome =
     decimal stamp ++ codes " " ++ call_name call.client call.seq
     ++ codes " " ++ asked_text call.op call.table call.key ++ codes " gives " ++ outcome_text outcome
 
--- the record that stands at the place of a receipt, if one that is accepted stands there
+-- the record at the place of a receipt, if an accepted record is there
 abbrev pub kept_text : Option Placed → List ℕ
 kept_text None = codes "none"
 kept_text (Some placed) = if placed.accepted then answer_text placed.stamp placed.call placed.outcome else codes "none"
 
--- where a receipt says that its record stands
+-- where a receipt says that its record is
 abbrev pub place_text : ℕ → ℕ → List ℕ
 place_text lane place = codes "audit differs " ++ decimal lane ++ (codes " " ++ decimal place)
 

@@ -11,7 +11,7 @@ abbrev pub value_text : List ℕ → List ℕ
 value_text [] = []
 value_text (byte ∷ bytes) = codes " " ++ byte ∷ bytes
 
--- the words that tell an outcome
+-- the words for an outcome
 abbrev pub outcome_text : Outcome → List ℕ
 outcome_text (Found version value) = codes "found " ++ decimal version ++ value_text value
 outcome_text Absent = codes "absent"
@@ -23,7 +23,7 @@ outcome_text (Mismatch version) = codes "mismatch " ++ decimal version
 abbrev pub call_name : ℕ → ℕ → List ℕ
 call_name client seq = decimal client ++ codes " " ++ decimal seq
 
--- what a client was told of its call: the outcome, or why it is to ask again
+-- what a client was told about its call: the outcome, or why it is to ask again
 abbrev pub said_text : Said → List ℕ
 said_text (Reply client seq outcome) = codes "reply " ++ call_name client seq ++ codes " " ++ outcome_text outcome
 said_text (Moved client seq tablet) = codes "again " ++ call_name client seq ++ codes " moved " ++ decimal tablet

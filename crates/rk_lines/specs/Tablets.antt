@@ -1,17 +1,17 @@
--- Where a tablet is, in lines: one for all lanes where it is the same in each, and else one for each lane.
+-- Where a tablet is, in lines: one for all lanes if it is the same in each, and else one for each lane.
 use Rattle.std.specs.Prelude.{ℕ, ◌+◌, Bool, List, [], ◌∷◌, ◌++◌, codes, decimal, if◌then◌else◌, bytes_eq}
 use Rattle.std.specs.List.{list_all}
 use Rattle.rk_tablet_map.specs.declared.phase.Phase.{Phase}
 use Rattle.rk_tablet_map.specs.declared.phase.Phase.TheVariants.{Owned, Opening, Moving, Rebuilding}
 
--- the masters of a phase; the places from which their logs count are not told
+-- the masters of a phase; the places from which their logs count are not shown
 abbrev pub state_text : Phase → List ℕ
 state_text (Owned master from) = codes "owned " ++ decimal master
 state_text (Opening source sfrom target dfrom) = codes "opening " ++ decimal source ++ codes " " ++ decimal target
 state_text (Moving source sfrom target dfrom) = codes "moving " ++ decimal source ++ codes " " ++ decimal target
 state_text (Rebuilding lineage to) = codes "rebuilding " ++ decimal to
 
--- whether two phases are told alike
+-- whether two phases are shown alike
 abbrev pub is_like : Phase → Phase → Bool
 is_like a b = bytes_eq (state_text a) (state_text b)
 

@@ -7,8 +7,8 @@ use crate::history::push_asked;
 use crate::words::{push_call_name, push_numbered, push_outcome};
 use rk_types::{Call, NoMemory, Outcome, Placed, Receipt};
 
-/// Adds the line of a receipt beside the record that stands at its lane and place, if one does. After `NoMemory` a part of it may stand
-/// there.
+/// Adds the line of a receipt beside the record at its lane and place, if there is one. After `NoMemory` a part of it may have been
+/// written.
 pub fn push_difference(
     text: &mut Vec<u8>,
     receipt: &Receipt,
@@ -25,7 +25,7 @@ pub fn push_difference(
     Ok(())
 }
 
-// Adds where a receipt says that its record stands.
+// Adds where a receipt says that its record is.
 fn push_place(text: &mut Vec<u8>, lane: u64, place: u64) -> Result<(), NoMemory>
     ensures { OnOk result (text.new.items ≡ text.old.items ++ place_text lane place) }
 {
@@ -52,7 +52,7 @@ fn push_answer(
     push_outcome(text, outcome)
 }
 
-// Adds a record, if there is one that is accepted.
+// Adds a record, if there is an accepted one.
 fn push_kept(text: &mut Vec<u8>, kept: Option<&Placed>) -> Result<(), NoMemory>
     ensures { OnOk result (text.new.items ≡ text.old.items ++ kept_text (option_copied kept.entry)) }
 {

@@ -6,7 +6,7 @@ use crate::words::{push_call_name, push_numbered, push_outcome, push_value, push
 use rk_model::Line;
 use rk_types::{Key, NoMemory, Op};
 
-/// Adds a line for each record of a history, in their order. After `NoMemory` a part of the lines may stand there.
+/// Adds a line for each record of a history, in their order. After `NoMemory` a part of the lines may have been written.
 pub fn push_history(text: &mut Vec<u8>, history: &[Line]) -> Result<(), NoMemory>
     ensures { OnOk result (text.new.items ≡ text.old.items ++ history_lines history.now) }
 {
@@ -16,7 +16,7 @@ pub fn push_history(text: &mut Vec<u8>, history: &[Line]) -> Result<(), NoMemory
     Ok(())
 }
 
-/// Adds the line of a record of the history. After `NoMemory` a part of it may stand there.
+/// Adds the line of a record of the history. After `NoMemory` a part of it may have been written.
 pub fn push_entry(text: &mut Vec<u8>, line: &Line) -> Result<(), NoMemory>
     ensures { OnOk result (text.new.items ≡ text.old.items ++ entry_line line.now) }
 {

@@ -5,7 +5,7 @@ ghost use Rattle.rk_lines.specs.Lines.{refused_line, said_line, said_lines, said
 use crate::words::{push_call_name, push_numbered, push_outcome, push_words};
 use rk_types::{NoMemory, Said};
 
-// Adds what a client was told of its call.
+// Adds what a client was told about its call.
 fn push_said_text(text: &mut Vec<u8>, said: &Said) -> Result<(), NoMemory>
     ensures { OnOk result (text.new.items ≡ text.old.items ++ said_text said.now) }
 {
@@ -26,7 +26,7 @@ fn push_said_text(text: &mut Vec<u8>, said: &Said) -> Result<(), NoMemory>
     }
 }
 
-/// Adds the line for what a client was told of its call. After `NoMemory` a part of it may stand there.
+/// Adds the line for what a client was told about its call. After `NoMemory` a part of it may have been written.
 pub fn push_said(text: &mut Vec<u8>, said: &Said) -> Result<(), NoMemory>
     ensures { OnOk result (text.new.items ≡ text.old.items ++ said_line said.now) }
 {
@@ -35,7 +35,7 @@ pub fn push_said(text: &mut Vec<u8>, said: &Said) -> Result<(), NoMemory>
     Ok(())
 }
 
-/// Adds a line for each thing that was said, in their order. After `NoMemory` a part of the lines may stand there.
+/// Adds a line for each thing that was said, in their order. After `NoMemory` a part of the lines may have been written.
 pub fn push_all_said(text: &mut Vec<u8>, said: &[Said]) -> Result<(), NoMemory>
     ensures { OnOk result (text.new.items ≡ text.old.items ++ said_lines said.now) }
 {
@@ -46,7 +46,7 @@ pub fn push_all_said(text: &mut Vec<u8>, said: &[Said]) -> Result<(), NoMemory>
 }
 
 /// Adds the last line of a refused run: the number of the line that is refused, and the code. After `NoMemory` a part of
-/// it may stand there.
+/// it may have been written.
 pub fn push_refused(text: &mut Vec<u8>, line: u32, code: u8) -> Result<(), NoMemory>
     ensures { OnOk result (text.new.items ≡ text.old.items ++ refused_line line code) }
 {

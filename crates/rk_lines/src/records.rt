@@ -7,7 +7,7 @@ use crate::words::{push_numbered, push_value, push_words};
 use rk_types::{Held, NoMemory};
 
 /// Adds the lines of items that come in any order, by the bytes of their keys; those of one key stay in their order, and
-/// tombstones have none. After `NoMemory` a part of the lines may stand there. A sort, and nothing is copied.
+/// tombstones have none. After `NoMemory` a part of the lines may have been written. A sort, and nothing is copied.
 pub fn push_records(text: &mut Vec<u8>, mut items: Vec<Held>) -> Result<(), NoMemory>
     ensures { OnOk result (text.new.items ≡ text.old.items ++ record_lines items.items) }
 {
@@ -23,7 +23,7 @@ fn sort_by_key(items: &mut Vec<Held>) -> Result<(), NoMemory>
     Ok(())
 }
 
-// Adds the lines of items in the order in which they stand.
+// Adds the lines of items in the order in which they come.
 fn push_items(text: &mut Vec<u8>, items: &[Held]) -> Result<(), NoMemory>
     ensures { OnOk result (text.new.items ≡ text.old.items ++ flat_map item_line items.now) }
 {
@@ -33,7 +33,7 @@ fn push_items(text: &mut Vec<u8>, items: &[Held]) -> Result<(), NoMemory>
     Ok(())
 }
 
-/// Adds the line of a record, and nothing for a tombstone. After `NoMemory` a part of the line may stand there.
+/// Adds the line of a record, and nothing for a tombstone. After `NoMemory` a part of the line may have been written.
 pub fn push_record(text: &mut Vec<u8>, item: &Held) -> Result<(), NoMemory>
     ensures { OnOk result (text.new.items ≡ text.old.items ++ item_line item.now) }
 {

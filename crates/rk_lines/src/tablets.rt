@@ -7,9 +7,9 @@ use crate::words::push_numbered;
 use rk_tablet_map::Phase;
 use rk_types::NoMemory;
 
-/// Adds where a tablet is, by its phases in the lanes, of which the first is that of lane 0: one line where they are told
-/// alike, and else a line for each lane. Places of logs are not told. Without phases there is no line. After `NoMemory` a
-/// part of the lines may stand there.
+/// Adds where a tablet is, by its phases in the lanes, of which the first is that of lane 0: one line if they are shown
+/// alike, and else a line for each lane. Places of logs are not shown. Without phases there is no line. After `NoMemory`
+/// a part of the lines may have been written.
 pub fn push_tablet(text: &mut Vec<u8>, tablet: u32, phases: &[&Phase]) -> Result<(), NoMemory>
     ensures { OnOk result (text.new.items ≡ text.old.items ++ tablet_lines tablet (map (λ phase. phase.now) phases.now)) }
 {
@@ -22,14 +22,14 @@ pub fn push_tablet(text: &mut Vec<u8>, tablet: u32, phases: &[&Phase]) -> Result
     push_lanes(text, tablet, phases)
 }
 
-// Whether all others are told like the first.
+// Whether all others are shown like the first.
 fn are_like(first: &Phase, others: &[&Phase]) -> bool
     ensures { result ≡ list_all (is_like_lem first.now) (map (λ other. other.now) others.now) }
 {
     others.iter().all(|other| is_like(first, other))
 }
 
-// Whether two phases are told alike.
+// Whether two phases are shown alike.
 fn is_like(a: &Phase, b: &Phase) -> bool
     ensures { result ≡ is_like_lem a.now b.now }
 {

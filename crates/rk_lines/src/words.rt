@@ -57,7 +57,7 @@ pub fn push_value(text: &mut Vec<u8>, value: &Value) -> Result<(), NoMemory>
     Ok(())
 }
 
-/// Adds the words that tell an outcome.
+/// Adds the words for an outcome.
 pub fn push_outcome(text: &mut Vec<u8>, outcome: &Outcome) -> Result<(), NoMemory>
     ensures { OnOk result (text.new.items ≡ text.old.items ++ outcome_text outcome.now) }
 {

@@ -1,4 +1,4 @@
--- What a run leaves where it comes to its end: the part that was played, and the cluster in code then.
+-- What a run leaves when it ends: the part that was played, and the cluster in code then.
 use Rattle.rk_play.proofs.Words.{arith, ◌≡◌, ◌≢◌, ℕ, List, [], ◌++◌, length, refl, sym, subst, ⊎_elim, append-nil, Keeps, Status, Done}
 use Rattle.rk_play.proofs.Words.{NoMemory, WriteFault, Segments, Cluster, CountsGoOn, Fate, ClusterState, IsOf, Numbered, Concludes}
 use Rattle.rk_play.proofs.Words.{ConcludesBy, IsWritten, part_in, Pauses, Stop, EndsBy, HasFailed, HasStopped, IsHalted, Played, all_fates}
@@ -7,8 +7,8 @@ use Rattle.std.specs.Prelude.{Option, None, Some}
 use Rattle.rk_play.specs.declared.end.End.TheVariants as ends
 use Rattle.rk_play.proofs.Concluding.{IsEnded, failed_runs, halted_may, halted_runs, ran_all, ran_alone, stopped_ended, written_runs}
 
--- by the fates of the calls of replicas a part of a run, which has so many commands in all, has this status; unless memory was wanting, for each
--- call that failed the count of its replica rose, and the cluster in code stands for the one at the end
+-- by the fates of the calls of replicas a part of a run, which has so many commands in all, has this status; unless memory was wanting, for
+-- each call that failed the count of its replica rose, and the cluster in code stands for the one at the end
 pub record IsPlayedOut {R : Type 0} (segments : R → Option Segments) (faults : R → ℕ) (old now : ClusterState R) (played_by : Option ℕ → List (List Fate) → Played) (most : ℕ) (status : Status) (was new : Option (List ℕ)) : Type 0 where
   pub part : Option ℕ
   pub may : MayBePart status most part

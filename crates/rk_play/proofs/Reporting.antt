@@ -1,4 +1,4 @@
--- The code that is told of a run is the one that was written last.
+-- The code that is reported of a run is the code that was written last.
 use Rattle.rk_play.proofs.Words.{◌≡◌, ◌≢◌, ℕ, List, ◌++◌, sym, subst, ⊎_elim, arith, append_assoc, concat, take, Appends, Status, Refused, WriteFault, AppendsPart}
 use Rattle.rk_play.proofs.Words.{Segments, ClusterState, Numbered, ConcludesBy, IsWritten, End, IsSent}
 use Rattle.std.specs.Prelude.{Option, Some, None}

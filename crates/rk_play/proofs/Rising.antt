@@ -1,4 +1,4 @@
--- Where the counts of faults of a cluster went on, those of the replicas of its run did, of which some were lent to it.
+-- If the counts of faults of a cluster went on, so did those of the replicas of its run, some of which were lent to it.
 use Rattle.rk_play.proofs.Words.{◌≡◌, ◌*◌, ◌+◌, ◌++◌, ℕ, zero, suc, Bool, true, false, List, [], ◌∷◌, drop, length, map, slice_get, None}
 use Rattle.rk_play.proofs.Words.{Some, refl, sym, ap, subst, ◌∙◌, arith, length-append, if◌then◌else◌, take-append-drop, LANES, LaneState}
 use Rattle.rk_play.proofs.Words.{replicas_of, CountsGoOn, GoOn, Fate, ClusterState, go_on_same, MOST_FAULTS, AreGivenBack, replica_counts}

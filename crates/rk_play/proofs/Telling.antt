@@ -1,4 +1,4 @@
--- What the replicas that come back tell.
+-- What the replicas that come back report.
 use Rattle.rk_play.proofs.Words.{◌≡◌, ℕ, zero, suc, ◌+◌, ◌*◌, ◌≤◌, ◌<◌, true, false, List, [], ◌∷◌, ◌++◌, All, drop, length, map, take}
 use Rattle.rk_play.proofs.Words.{slice_get, slice_index_or, refl, sym, ap, subst, ◌∙◌, ⊎_elim, arith, Keeps, range_with_len, NumberMap}
 use Rattle.rk_play.proofs.Words.{LANES, Status, Done, NoMemory, Refused, Segments, Cluster, lane_at, World, new_world, LaneState}

@@ -35,7 +35,7 @@ pub record HasFailed {R : Type 0} (segments : R → Option Segments) (faults : R
   pub reached : Reached segments faults old now ran pieces
   pub put : AppendsPart was written (concat pieces)
 
--- a run played has written these pieces and stops at a line, with a cluster that the one in code stands for
+-- a run played has written these pieces and stops at a line, with a cluster that the one in code represents
 pub record StopsAt {R : Type 0} (segments : R → Option Segments) (now : ClusterState R) (line : ℕ) (stop : Stop) (pieces : List (List ℕ)) (played : Played) : Type 0 where
   pub cluster : Cluster
   pub is : IsOf segments now cluster
@@ -64,7 +64,7 @@ abbrev pub end_by : ℕ → PlayError → End
 end_by line errors.NoMemory = ends.NoMemory
 end_by line error = ends.Stopped line error
 
--- the count of a sink's faults rose where it failed, and else it stays
+-- the count of a sink's faults rose if it failed, and else it stays
 pub record HasEndCause (end : End) (before now : ℕ) : Type 0 where
   pub later : before ≤ now
   pub kept : (end ≡ ends.WriteFault → ⊥) → now ≡ before

@@ -18,7 +18,7 @@ use Rattle.rk_script.specs.declared.script.ParseError.TheVariants as faults
 use Rattle.rk_lines.specs.Lines.{refused_line}
 use Rattle.rk_play.specs.Effects.{Effect, Fails, Pauses, Refuses, Stop, Wears, effect_within}
 
--- a run: one piece of text for each command that acted, and behind them the refusal, where it is refused; its status; the cluster at its
+-- a run: one piece of text for each command that acted, and behind them the refusal, if it is refused; its status; the cluster at its
 -- end, and what occurred from the start on
 pub record Played : Type 0 where
   pub pieces : List (List ℕ)
@@ -44,7 +44,7 @@ abbrev pub refused_at : ℕ → ℕ → Cluster → Played
 refused_at line code cluster =
     record { pieces = refused_line line code ∷ []; status = Refused; cluster = cluster; occurred = [] }
 
--- how a run stops at a line; one that pauses has not come to an end, as where memory is wanting
+-- how a run stops at a line; a run that pauses has not come to an end, as when memory is wanting
 abbrev pub stopped_at : ℕ → Stop → Cluster → Played
 stopped_at line (Refuses code) cluster = refused_at line code cluster
 stopped_at line (Wears number) cluster = ending Worn cluster
@@ -81,7 +81,7 @@ pub record Setting : Type 0 where
 abbrev pub unset : Setting
 unset = record { masters = None; backups = None }
 
--- there are two of each where a script does not say otherwise
+-- there are two of each if a script does not say otherwise
 abbrev pub how_many : Option ℕ → ℕ
 how_many count = unwrap_or count 2
 
@@ -120,7 +120,7 @@ played_of (Err faults.NoMemory) fates = ending NoMemory (cluster_by unset)
 abbrev pub played : List ℕ → List (List Fate) → Played
 played script fates = played_of (script_of script) fates
 
--- the first commands of a script alone; none where it is refused before anything runs
+-- the first commands of a script alone; none if it is refused before anything runs
 abbrev pub first_commands : ℕ → Result (List Numbered) ParseError → Result (List Numbered) ParseError
 first_commands count (Ok commands) = Ok (take count commands)
 first_commands count (Err fault) = Ok []

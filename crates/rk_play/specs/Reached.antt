@@ -10,7 +10,7 @@ use Rattle.rk_cluster.specs.State.{ClusterState, IsOf}
 use Rattle.rk_script.specs.declared.command.Numbered.{Numbered}
 use Rattle.rk_play.specs.Played.{all_fates, behind, played_in}
 
--- these commands, played in a cluster by these fates, write these pieces, and leave a cluster that the one in code stands for, in which
+-- these commands, played in a cluster by these fates, write these pieces, and leave a cluster that the one in code represents, in which
 -- whatever follows is played by the fates that follow
 pub record IsReached {R : Type 0} (segments : R → Option Segments) (start : Cluster) (now : ClusterState R) (ran : List Numbered) (fates : List (List Fate)) (pieces : List (List ℕ)) : Type 0 where
   pub cluster : Cluster
@@ -41,7 +41,7 @@ pub record IsOn {R : Type 0} (segments : R → Option Segments) (faults : R → 
   pub reached : Reached segments faults old now ran pieces
   pub sent : IsSent was written pieces held
 
--- what was held back still is where it is less than a piece, and else all of it was put into the sink
+-- what was held back is still held back if it is less than a piece, and else all of it was put into the sink
 abbrev pub Spills : Bool → Option (List ℕ) → Option (List ℕ) → List ℕ → List ℕ → Type 0
 Spills true old new was now = Keeps old new × (now ≡ was)
 Spills false old new was now = Appends old new was × (now ≡ [])

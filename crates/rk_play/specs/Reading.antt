@@ -13,6 +13,6 @@ abbrev pub script_error_by : ParseError → ScriptError
 script_error_by (of_script.Refused line code) = errors.Refused line code
 script_error_by of_script.NoMemory = errors.NoMemory
 
--- the script that a source told says this, and is read
+-- the script that a source reported says this, and is read
 abbrev pub Says : Option (List ℕ) → Option (List ℕ) → Result (List Numbered) ParseError → Type 0
 Says old new said = IfSome old (λ script. (script_of script ≡ said) × IsRead script new)

@@ -1,4 +1,4 @@
--- What a run in code says of the run played: its status, what its sink holds after it, and what its replicas tell.
+-- What a run in code says of the run played: its status, what its sink holds after it, and what its replicas report.
 use Rattle.std.specs.Prelude.{◌≡◌, ℕ, ◌+◌, ◌-◌, ◌*◌, ◌<◌, ◌≤◌, nat_lt, if◌then◌else◌, List, [], drop, length, map, take, Option, None, Some, Result, Ok, Err, slice_get, ⊤}
 use Rattle.std.specs.List.{concat}
 use Rattle.std.specs.Io.KnownBytes.{Appends, IsAtEnd, Keeps}
@@ -48,13 +48,13 @@ Runs p NoMemory old new = Halts p old new
 Runs p Usage old new = ⊥
 Runs p Audit old new = ⊥
 
--- one of these replicas is at a place, and tells these segments
+-- one of these replicas is at a place, and reports these segments
 pub record TellsAt {R : Type 0} (segments : R → Option Segments) (replicas : List R) (place : ℕ) (stored : Segments) : Type 0 where
   pub replica : R
   pub there : slice_get replicas place ≡ Some replica
   pub tells : segments replica ≡ Some stored
 
--- replicas tell what the backups of a cluster store: backup b of lane l has the replica at place 8 * (b - 1) + l, counted from 0
+-- replicas report what the backups of a cluster store: backup b of lane l has the replica at place 8 * (b - 1) + l, counted from 0
 abbrev pub TellStored : {R : Type 0} → (R → Option Segments) → List R → Cluster → Type 0
 TellStored segments replicas cluster =
     (lane place : ℕ) (stored : Segments) → lane < LANES → get (lane_at cluster lane).backups (place + 1) ≡ Some stored
@@ -74,13 +74,13 @@ NoneFell faults before after =
 abbrev pub backup_count : Cluster → ℕ
 backup_count cluster = (lane_at cluster 0).backup_count
 
--- how many commands a script has; none where it is refused before anything runs
+-- how many commands a script has; none if it is refused before anything runs
 abbrev pub count_of : Result (List Numbered) ParseError → ℕ
 count_of (Ok commands) = length commands
 count_of (Err fault) = 0
 
--- a run is all of a script with so many commands, or, where memory was wanting, what comes before one of its commands; where the sink failed
--- it may be any part
+-- a run is all of a script with so many commands, or, if memory was wanting, what comes before one of its commands; if the sink failed it
+-- may be any part
 abbrev pub MayBePart : Status → ℕ → Option ℕ → Type 0
 MayBePart NoMemory most (Some count) = count ≤ most - 1
 MayBePart WriteFault most part = ⊤
@@ -89,8 +89,8 @@ MayBePart status most None = ⊤
 MayBePart status most part = ⊥
 
 -- by the fates of the calls of replicas a script, or its first commands, was played with this status, and its sink holds what was written.
--- Unless memory was wanting, for each call that failed the count of its replica rose, the replicas tell what the backups store at the end of
--- that run, and those of backups that the run does not have are as they were
+-- Unless memory was wanting, for each call that failed the count of its replica rose, the replicas report what the backups store at the end
+-- of that run, and those of backups that the run does not have are as they were
 pub record Plays {R : Type 0} (segments : R → Option Segments) (faults : R → ℕ) (script : List ℕ) (status : Status) (old new : Option (List ℕ)) (before after : List R) : Type 0 where
   pub part : Option ℕ
   pub may : MayBePart status (count_of (script_of script)) part
@@ -101,13 +101,13 @@ pub record Plays {R : Type 0} (segments : R → Option Segments) (faults : R →
   pub others : (status ≡ NoMemory → ⊥)
       → let backups = backup_count (played_part part script fates).cluster in drop (LANES * backups) after ≡ drop (LANES * backups) before
 
--- a status tells of a fault exactly where there was one: the count of faults rose where it does, and elsewhere it stays
+-- a status reports a fault exactly if there was one: the count of faults rose if it does, and else it stays
 pub record HasStatusCause (fault status : Status) (before now : ℕ) : Type 0 where
   pub later : before ≤ now
   pub kept : (status ≡ fault → ⊥) → now ≡ before
   pub rose : status ≡ fault → Rose before now
 
--- how much is gone of a script whose run was refused: all of it, or where it is too long, one byte more than the longest
+-- how much is gone of a script whose run was refused: all of it, or, if it is too long, one byte more than the longest
 -- has at least, and at most a piece more
 pub record IsRead (script : List ℕ) (left : Option (List ℕ)) : Type 0 where
   pub whole : length script ≤ LONGEST_SCRIPT → IsAtEnd left

@@ -9,7 +9,7 @@ use Rattle.rk_script.specs.declared.command.Numbered.{Numbered}
 use Rattle.rk_play.specs.Played.{Setting, cluster_by, how_many, played_from, played_in, refused_at, unset}
 use Rattle.rk_play.specs.declared.setting.Opening.{Opening}
 
--- the setting that an opening stands for
+-- the setting that an opening gives
 abbrev pub setting_of : Opening → Setting
 setting_of opening = record { masters = opening.masters; backups = opening.backups }
 

@@ -21,7 +21,7 @@ error_by_settling of_settling.TooLong = errors.NoMemory
 error_by_settling (of_settling.Worn number) = errors.Worn number
 error_by_settling (of_settling.Replica rounds) = errors.Replica rounds
 
--- the stop that an error tells of; want of memory tells of none
+-- the stop that an error reports; want of memory reports none
 abbrev pub stop_by : PlayError → Stop
 stop_by errors.NoMemory = Pauses
 stop_by (errors.Refused code) = Refuses (number_of code)

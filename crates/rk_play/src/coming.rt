@@ -7,8 +7,8 @@ use std::marker::Model;
 /// Below so many commands no memory is given back.
 const FEW: usize = 1_024;
 
-/// The commands that are still to come. They give their memory back as they are taken, so that a long script does not stand beside
-/// what its calls leave behind.
+/// The commands that are still to come. They give their memory back as they are taken, so that a long script is not held in memory
+/// beside what its calls leave behind.
 #[derive(Drop)]
 pub(crate) struct Coming {
     // The next one is the last.
@@ -37,7 +37,7 @@ impl Coming {
         Coming { reversed }
     }
 
-    /// Takes the next command; none comes exactly where none is left.
+    /// Takes the next command; none comes exactly if none is left.
     pub(crate) fn next(&mut self) -> Option<Numbered>
         ensures some { IfSome result (λ first. self.old ≡ first ∷ self.new) }
         ensures none { IfNone result (self.old ≡ []) }

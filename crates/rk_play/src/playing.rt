@@ -29,15 +29,15 @@ use rk_script::{LONGEST_SCRIPT, Numbered};
 use rk_types::Status;
 use std::alloc::Global;
 
-/// How many masters and backups there are where a script does not say.
+/// How many masters and backups there are if a script does not say.
 const DEFAULT_COUNT: u8 = 2;
 
 /// Plays the script that the source has, and writes its text to the sink. A refused script is reported with the code that was written.
 ///
 /// The replicas hold nothing; backup b of lane l has the one at place 8 * (b - 1) + l, counted from 0. Unless memory was
-/// wanting, they come back in their order: those of backups that are there tell what these store at the end, and the others are
-/// as they were. Where the source failed, all are. No count of their faults falls; where memory was wanting, all of them may
-/// be gone. A script that is too long is read up to one piece past the longest.
+/// wanting, they come back in their order: those of backups that are there report what these store at the end, and the others
+/// are as they were. If the source failed, all are. No count of their faults falls; if memory was wanting, all of them may be
+/// gone. A script that is too long is read up to one piece past the longest.
 pub fn play<S: Source, K: Sink, R: Replica + Drop>(
     alloc: Global,
     source: &mut S,
@@ -136,7 +136,7 @@ fn play_opened<K: Sink, R: Replica + Drop>(
     conclude(end, held, sink)
 }
 
-// Writes what is held back of a run, and behind it the refusal where it was refused.
+// Writes what is held back of a run, and behind it the refusal if it was refused.
 #[tactic(auto, using(crate::proofs::Reporting::told_apart, crate::proofs::Reporting::told_refused))]
 fn conclude<K: Sink>(end: End, held: Vec<u8>, sink: &mut K) -> Report
     ensures concludes { ConcludesBy end held.items result.status (K.written sink.old) (K.written sink.new) }
@@ -152,7 +152,7 @@ fn conclude<K: Sink>(end: End, held: Vec<u8>, sink: &mut K) -> Report
     }
 }
 
-// Writes what is held back of a run that stops at a line, and behind it the refusal where it is refused.
+// Writes what is held back of a run that stops at a line, and behind it the refusal if it is refused.
 #[tactic(auto, using(crate::proofs::Reporting::told_apart, crate::proofs::Reporting::told_refused))]
 fn stop<K: Sink>(line: u32, error: PlayError, held: Vec<u8>, sink: &mut K) -> Report
     ensures concludes { (cluster : Whole) → Concludes (stopped_at line (stop_by error) cluster) held.items result.status (K.written sink.old) (K.written sink.new) }

@@ -63,9 +63,9 @@ fn zeros(alloc: Global, count: usize) -> Result<Vec<u8>, AllocError>
 }
 
 /// The commands of the script that the source has, which is read in pieces of at most `PIECE` bytes. Of its bytes never more than
-/// a piece and one line are held. `Refused` tells the first refusal of the script, and comes at its end; one that is too
-/// long is read up to one piece past the longest. `Failed` comes only where the source's count of faults rose, and elsewhere
-/// the count stays.
+/// a piece and one line are held. `Refused` gives the first refusal of the script, and comes at its end; a script that is too
+/// long is read up to one piece past the longest. `Failed` comes only if the source's count of faults rose, and else the count
+/// stays.
 pub(crate) fn read_script<S: Source>(
     alloc: Global,
     source: &mut S,

@@ -1,4 +1,4 @@
-// What the caller of a run is told when it has ended.
+// What is reported to the caller of a run when it has ended.
 ghost use Rattle.std.specs.Prelude.{◌≡◌};
 ghost use Rattle.rk_play.specs.Reports.{refused_report, report_of as report_by};
 
@@ -9,7 +9,7 @@ use rk_types::Status;
 pub struct Report {
     /// How it ended.
     pub status: Status,
-    /// The code of the refusal; none where the run was not refused, or is no run of a script.
+    /// The code of the refusal; none if the run was not refused, or is no run of a script.
     pub code: Option<u8>,
 }
 
@@ -21,7 +21,7 @@ impl Report {
         Report { status, code: None }
     }
 
-    /// A status that comes of a refusal with this code: the code is told where the status is `Refused`, and so the refusal was written.
+    /// A status that comes of a refusal with this code: the code is reported if the status is `Refused`, and so the refusal was written.
     pub(crate) fn refused(status: Status, code: u8) -> Report
         ensures { result ≡ refused_report status code }
     {

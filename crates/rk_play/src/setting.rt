@@ -5,7 +5,7 @@ ghost use Rattle.rk_play.specs.Settings.{IsOpened, IsRefusedEarly};
 
 use rk_script::{Command, Numbered};
 
-/// How many masters and backups a script asks for, where it does, and how many commands it takes to say so.
+/// How many masters and backups a script asks for, if it does, and how many commands it takes to say so.
 #[derive(Clone, Copy)]
 pub(crate) struct Opening {
     pub(crate) masters: Option<u8>,
@@ -13,7 +13,7 @@ pub(crate) struct Opening {
     pub(crate) count: usize,
 }
 
-/// Reads the numbers that commands set before all others. Where one is set twice the answer is the line of that command.
+/// Reads the numbers that commands set before all others. If one is set twice, the answer is the line of that command.
 pub(crate) fn read_opening(commands: &[Numbered]) -> Result<Opening, u32>
     requires { All IsLawful commands.now }
     ensures ok { IfOk result (IsOpened commands.now) }

@@ -33,7 +33,7 @@ pub(crate) fn is_full<R: Replica + Drop>(cluster: &Cluster<R>) -> bool
     journal_bytes(lanes) >= MOST_BYTES || wire_bytes(lanes) >= MOST_BYTES
 }
 
-// The bytes of the values in the journals of lanes; 2^64 - 1 where they are more. A step for each lane.
+// The bytes of the values in the journals of lanes; 2^64 - 1 if they are more. A step for each lane.
 fn journal_bytes<R: Replica + Drop>(lanes: &[Lane<R>]) -> u64
     ensures { LanesTell R.segments lanes.now (λ c. min (journal_bytes_lem c) (2 ^ 64 - 1)) result }
 {
@@ -44,7 +44,7 @@ fn journal_bytes<R: Replica + Drop>(lanes: &[Lane<R>]) -> u64
     bytes
 }
 
-// The bytes of the frames on the wires of lanes; 2^64 - 1 where they are more. A step for each lane.
+// The bytes of the frames on the wires of lanes; 2^64 - 1 if they are more. A step for each lane.
 fn wire_bytes<R: Replica + Drop>(lanes: &[Lane<R>]) -> u64
     ensures { LanesTell R.segments lanes.now (λ c. min (wire_bytes_lem c) (2 ^ 64 - 1)) result }
 {
@@ -113,7 +113,7 @@ pub(crate) fn show_records<R: Replica + Drop>(
     Ok(())
 }
 
-// The records of a tablet, lane 0 first. `Refused` comes where in some lane no living master owns it, with `NotOwned`.
+// The records of a tablet, lane 0 first. `Refused` comes, with `NotOwned`, if in some lane no living master owns it.
 fn records_of<R: Replica + Drop>(
     alloc: Global,
     lanes: &[Lane<R>],
@@ -130,7 +130,7 @@ fn records_of<R: Replica + Drop>(
     Ok(items)
 }
 
-// Adds the records of a tablet in a lane to others, where a master that lives owns it; `Refused` comes where none does, with `NotOwned`.
+// Adds the records of a tablet in a lane to others, if a master that lives owns it; `Refused` comes, with `NotOwned`, if none does.
 fn add_records<R: Replica + Drop>(
     lane: &Lane<R>,
     tablet: u32,
@@ -164,7 +164,7 @@ pub(crate) fn show_history<R: Replica + Drop>(
     ensures kept { IfErr result (λ e. e ≢ PlayError.NoMemory → text.new.items ≡ text.old.items) }
     ensures cause { IfErr result (λ e. IsOfReplicas e → ⊥) }
 {
-    // Asked how many masters there are, a cluster tells that it has eight lanes.
+    // By the contract of `masters` a cluster has eight lanes.
     let _masters = cluster.masters();
     let journals = journals_of(alloc, cluster.lanes())?;
     let history = merge(alloc, journals.as_slice())?;

@@ -1,4 +1,4 @@
--- Entries whose numbers rise, as a queue has them: what a number's place tells, and what is left once an entry came or went.
+-- Entries whose numbers rise, as a queue has them: what a number's place shows, and what is left once an entry came or went.
 use Rattle.std.proofs.Common.{◌≡◌, ℕ, zero, suc, ◌<◌, ◌++◌, T, not, cond, [], ◌∷◌, length, get_or, Some, None, refl, sym, ap, ◌∙◌, subst, arith}
 use Rattle.std.specs.Prelude.{All, Result, Ok, Err, IfSome, IfNone}
 use Rattle.std.specs.Result.{result_ok}

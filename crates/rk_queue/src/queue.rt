@@ -48,7 +48,7 @@ impl<V> Queue<V> {
     }
 
     /// Puts a value behind the others, under a number that is greater than all of theirs. After `NoMemory` the values
-    /// are as they were, and the new one is dropped. No search; where the room is used up, all move to more of it.
+    /// are as they were, and the new one is dropped. No search; if the room is used up, all move to more of it.
     pub fn push(&mut self, number: u64, value: V) -> Result<(), NoMemory>
     where
         V: Drop,
@@ -60,8 +60,8 @@ impl<V> Queue<V> {
         Ok(())
     }
 
-    /// Takes the value of this number out, if there is one. One binary search, and a move for each value that stands
-    /// before it, or for each behind it where those are fewer.
+    /// Takes the value of this number out, if there is one. One binary search, and a move for each value before it,
+    /// or for each behind it if those are fewer.
     pub fn remove(&mut self, number: u64) -> Option<V>
         ensures value { result ≡ map.get self.old number }
         ensures removed { self.new ≡ map.remove self.old number }
@@ -88,7 +88,7 @@ impl<V> Queue<V> {
         self.values.iter()
     }
 
-    /// The number at a place, where the numbers rise and places count from 0. No search.
+    /// The number at a place; the numbers rise, and places count from 0. No search.
     pub fn number_at(&self, place: usize) -> Option<u64>
         ensures { result ≡ slice_get (map.numbers self.now) place }
     {

@@ -1,4 +1,4 @@
--- Commands that are read are lawful: a number is read where it is in its range, and what is made of readings keeps what holds of them.
+-- Commands that are read are lawful: a number is read when it is in its range, and what is made of readings keeps what holds of them.
 use Rattle.std.proofs.Common.{◌≡◌, ℕ, ◌+◌, ◌<◌, ◌≤◌, cond, List, [], ◌∷◌, length, arith}
 use Rattle.std.specs.Prelude.{◌-◌, ◌^◌, ◌==◌, All, IfOk, IfSome, bytes_eq, codes, nat_lt, slice_index, Option, Some, None, Result, Ok, Err}
 use Rattle.std.specs.Int.{IsInRange}

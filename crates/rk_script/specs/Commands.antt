@@ -65,7 +65,7 @@ plain_command Where words = made_of command.Where (one tablet_of words)
 plain_command Dump words = made_of command.Dump (one tablet_of words)
 plain_command History words = none command.History words
 
--- `advance N REACH`: an unknown reach is told before a wrong count of words
+-- `advance N REACH`: an unknown reach comes before a wrong count of words
 abbrev pub advance_of : List (List ℕ) → Result Command Code
 advance_of (tablet ∷ reach ∷ more) = after (reach_of reach) (λ r. made_of (λ n. command.Advance n r) (one tablet_of (tablet ∷ more)))
 advance_of words = Err WordCount
@@ -83,7 +83,7 @@ key_of word = text_of KeyLength word (key_fault word)
 abbrev pub value_of : List ℕ → Result (List ℕ) Code
 value_of word = text_of ValueLength word (value_fault word)
 
--- the value that the words after a key end with, empty where none is given
+-- the value that the words after a key end with, empty if none is given
 abbrev pub last_value : List (List ℕ) → Result (List ℕ) Code
 last_value [] = Ok []
 last_value (word ∷ words) = value_of word
@@ -114,7 +114,7 @@ call_with operation client (table ∷ key ∷ words) =
     if takes operation (length words) then asked operation client table key words else Err WordCount
 call_with operation client words = Err WordCount
 
--- `call C get T K`, `call C put T K [V]`, `call C cput T K N [V]` and `call C del T K`: an unknown operation is told before a wrong count of words
+-- `call C get T K`, `call C put T K [V]`, `call C cput T K N [V]`, `call C del T K`: an unknown operation comes before a wrong word count
 abbrev pub call_of : List (List ℕ) → Result Command Code
 call_of (client ∷ operation ∷ words) = after (operation_of operation) (λ o. call_with o client words)
 call_of words = Err WordCount

@@ -58,7 +58,7 @@ IsLawfulCommand (Where tablet) = IsTabletNumber tablet
 IsLawfulCommand (Dump tablet) = IsTabletNumber tablet
 IsLawfulCommand History = ⊤
 
--- a lawful command at a line, where lines are counted from 1
+-- a lawful command at a line; lines are counted from 1
 pub record IsLawful (numbered : Numbered) : Type 0 where
   pub line : 1 ≤ numbered.line
   pub command : IsLawfulCommand numbered.command

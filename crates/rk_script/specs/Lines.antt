@@ -19,7 +19,7 @@ words_of line = filter (λ word. nat_lt 0 (length word)) (slice_split is_blank l
 abbrev pub is_bad : ℕ → Bool
 is_bad byte = not (is_blank byte) && (nat_lt byte FIRST_PRINTED || nat_lt LAST_PRINTED byte)
 
--- the command that a line with these words says, none where it is empty or a comment, or the code that refuses it
+-- the command that a line with these words says, none if it is empty or a comment, or the code that refuses it
 abbrev pub said_in : List ℕ → List (List ℕ) → Result (Option Command) Code
 said_in line [] = Ok None
 said_in line (name ∷ words) =

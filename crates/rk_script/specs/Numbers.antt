@@ -40,7 +40,7 @@ table_of word = number_in 1 (2 ^ 64 - 1) word
 abbrev pub client_of : List ℕ → Result ℕ Code
 client_of word = number_in 1 (2 ^ 32 - 1) word
 
--- the version that a record is to have, 0 for one that is not there
+-- the version that a record is to have, 0 for a record that is not there
 abbrev pub version_of : List ℕ → Result ℕ Code
 version_of word = number_in 0 (2 ^ 64 - 1) word
 

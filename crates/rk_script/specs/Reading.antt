@@ -15,7 +15,7 @@ use Rattle.rk_script.specs.Script.{commands_from}
 abbrev pub IsWithinLine : List ℕ → Type 0
 IsWithinLine bytes = All (λ byte. (byte == LINE_FEED) ≡ false) bytes
 
--- the commands with the one that a line says, if it says one
+-- the commands with the command that a line says, if it says one
 abbrev pub with_line : List Numbered → ℕ → Option Command → List Numbered
 with_line commands line None = commands
 with_line commands line (Some command) = commands ++ record { line = line; command = command } ∷ []
@@ -24,7 +24,7 @@ with_line commands line (Some command) = commands ++ record { line = line; comma
 abbrev pub AddsLine : List Numbered → List Numbered → ℕ → List ℕ → Type 0
 AddsLine old new line text = (said : Option Command) × (said_by text ≡ Ok said) × (new ≡ with_line old line said)
 
--- an error tells this line and the code that refuses it; want of memory is free
+-- an error gives this line and the code that refuses it; want of memory is free
 abbrev pub IsLineRefusal : ParseError → ℕ → Result (Option Command) Code → Type 0
 IsLineRefusal (Refused wrong code) line said = (wrong ≡ line) × (said ≡ Err code)
 IsLineRefusal NoMemory line said = ⊤
@@ -39,11 +39,11 @@ abbrev pub after_commands : List Numbered → Result (List Numbered) ParseError 
 after_commands done (Ok more) = Ok (done ++ more)
 after_commands done (Err error) = Err error
 
--- what a script comes to that is read so far, where these bytes follow
+-- what a script that is read so far comes to, if these bytes follow
 abbrev pub answer_of : Progress → List ℕ → Result (List Numbered) ParseError
 answer_of progress more = after_commands progress.commands.items (commands_from progress.line (lines (progress.last.items ++ more)))
 
--- what is read so far, or why no more is read, settles what the lines come to where these bytes follow; want of memory is free
+-- what is read so far, or why no more is read, settles what the lines come to if these bytes follow; want of memory is free
 abbrev pub Settles : Result Progress ParseError → List ℕ → Result (List Numbered) ParseError → Type 0
 Settles (Ok progress) more said = said ≡ answer_of progress more
 Settles (Err error) more said = IsScriptRefusal error said

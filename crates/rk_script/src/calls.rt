@@ -36,7 +36,7 @@ fn value(alloc: Global, word: &[u8]) -> Result<Value, LineError>
     }
 }
 
-// The value that these words begin with, empty where there is none.
+// The value that these words begin with, empty if there is none.
 fn value_or_empty(alloc: Global, words: &[&[u8]]) -> Result<Value, LineError>
     ensures ok { IfOk result (λ value. last_value (map (λ word. word.now) words.now) ≡ Ok value) }
     ensures err { IfErr result (λ e. IsRefusalOf e (last_value (map (λ word. word.now) words.now))) }

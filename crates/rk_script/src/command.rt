@@ -56,7 +56,7 @@ pub enum Command {
     },
     /// A master crashes.
     Crash(u8),
-    /// The coordinator is told that a master has crashed.
+    /// The coordinator is notified that a master has crashed.
     Notice(u8),
     /// Everything runs until it is quiet.
     Settle,

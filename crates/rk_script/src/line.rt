@@ -75,7 +75,7 @@ fn command(alloc: Global, name: &[u8], words: &[&[u8]]) -> Result<Command, LineE
     Ok(arguments::plain(keyword, words)?)
 }
 
-// The command that a line with these words says; none where it is empty or a comment.
+// The command that a line with these words says; none if it is empty or a comment.
 fn read_words(alloc: Global, line: &[u8], words: &[&[u8]]) -> Result<Option<Command>, LineError>
     ensures ok { IfOk result (λ said. said_in line.now (map (λ word. word.now) words.now) ≡ Ok said) }
     ensures err { IfErr result (λ e. IsRefusalOf e (said_in line.now (map (λ word. word.now) words.now))) }
@@ -92,7 +92,7 @@ fn read_words(alloc: Global, line: &[u8], words: &[&[u8]]) -> Result<Option<Comm
     Ok(Some(command(alloc, name, rest)?))
 }
 
-/// The command that a line says; none where it is empty or a comment. `Refused` tells the first code that the line
+/// The command that a line says; none if it is empty or a comment. `Refused` gives the first code that the line
 /// meets.
 pub fn read_line(alloc: Global, line: &[u8]) -> Result<Option<Command>, LineError>
     ensures ok { IfOk result (λ said. said_by line.now ≡ Ok said) }

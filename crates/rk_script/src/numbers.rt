@@ -56,7 +56,7 @@ fn text(word: &[u8]) -> &str
     str::from_utf8(word).unwrap()
 }
 
-// The number that decimal digits spell; none where it has more than 64 bits.
+// The number that decimal digits spell; none if it has more than 64 bits.
 fn decimal(word: &[u8]) -> Option<u64>
     requires { is_decimal word.now ≡ true }
     ensures some { IfSome result (λ number. number ≡ digits_value 10 word.now) }
@@ -125,7 +125,7 @@ pub fn client(word: &[u8]) -> Result<u32, Code>
     Ok(number(word, 1, u64::from(u32::MAX))? as u32)
 }
 
-/// The version that a record is to have, 0 for one that is not there.
+/// The version that a record is to have, 0 for a record that is not there.
 pub fn version(word: &[u8]) -> Result<u64, Code>
     ensures { result ≡ version_of word.now }
 {

@@ -31,7 +31,7 @@ fn line_end(bytes: &[u8]) -> Option<usize>
     memchr(LINE_FEED, bytes)
 }
 
-// What stands before the first line feed, and what stands after it.
+// What comes before the first line feed, and what comes after it.
 #[tactic(auto, using(crate::proofs::Cuts::cut_at_position, crate::proofs::Cuts::line_before_position, crate::proofs::Cuts::line_without_position))]
 fn cut_line(bytes: &[u8]) -> Option<(&[u8], &[u8])>
     ensures whole { IfNone result (IsWithinLine bytes.now) }
@@ -82,7 +82,7 @@ fn add_line(
 }
 
 // Puts the command of the line that ends with this text behind the others, and forgets the line. A line that came in one piece
-// is read where it stands.
+// is read in place.
 fn end_line(
     alloc: Global,
     commands: &mut Vec<Numbered>,

@@ -74,7 +74,7 @@ impl ScriptReader {
         }
     }
 
-    /// Reads the next piece of the script, in time in proportion to it. `Refused` tells line 0 and the code `ScriptLength`
+    /// Reads the next piece of the script, in time in proportion to it. `Refused` gives line 0 and the code `ScriptLength`
     /// exactly if the pieces so far have more than `LONGEST_SCRIPT` bytes; the refusal of a single line is answered at the
     /// end. After `NoMemory` each call fails.
     pub fn feed(&mut self, piece: &[u8]) -> Result<(), ParseError>

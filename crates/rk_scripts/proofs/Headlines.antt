@@ -27,7 +27,7 @@ use Rattle.rk_scripts.proofs.settle.Settled.{reached_ends, reached_rests}
 -- Whatever a script says and whichever calls of replicas fail, the cluster that it leaves, or that its first commands leave, is what its
 -- occurrences make of a new one, and these are a run: each may occur when it does, a master crashes only while another one lives, lanes
 -- have room, and replicas answer what they store. So the journals make one lawful history of one map that is ordered with the sessions, and
--- where nothing is left to do the stored logs alone give it; and at each step each lane is sound, a tablet that has moved has the old one's
+-- if nothing is left to do the stored logs alone give it; and at each step each lane is sound, a tablet that has moved has the old one's
 -- records overlaid by later writes, and each refusal is justified.
 pub scripts_are_historical : (script : List ℕ) (part : Option ℕ) (fates : List (List Fate)) → IsHistorical (played_part part script fates)
 scripts_are_historical = Rattle.rk_scripts.proofs.play.Playing.scripts_historical
@@ -36,19 +36,19 @@ scripts_are_historical = Rattle.rk_scripts.proofs.play.Playing.scripts_historica
 pub runs_lead_to_one_map : (occurred : List Occurrence) (cluster : Cluster) → IsLedBy occurred cluster → IsOneMap cluster
 runs_lead_to_one_map = Rattle.rk_scripts.proofs.play.Led.one_map
 
--- Where `settle` has come to its end its cluster is quiet. If a run has led there too, the stored logs alone give the map, by
+-- Once `settle` has come to its end, its cluster is quiet. If a run has led there too, the stored logs alone give the map, by
 -- `runs_lead_to_one_map`.
 pub settled_clusters_are_quiet : (cluster : Cluster) (fates : List Fate) → (moved_all (course_of cluster (settle cluster)) fates).tasks ≡ []
     → IsQuietCluster (moved_all (course_of cluster (settle cluster)) fates).cluster
 settled_clusters_are_quiet cluster fates none =
     rests_quiet (moved_all (course_of cluster (settle cluster)) fates).cluster (settled_rests cluster fates none)
 
--- Where no count of a replica rose, and none is as great as a count can be, no call of a replica failed.
+-- If no count of a replica rose, and none is as great as a count can be, no call of a replica failed.
 pub counts_that_stay_tell_of_no_fault : (fates : List (List Fate)) (before now : Counts) → GoOn (all_fates fates) before now
     → NoneRose before now → IsFaultless fates
 counts_that_stay_tell_of_no_fault = Rattle.rk_scripts.proofs.play.Alone.none_lost
 
--- Where no call of a replica fails the script alone decides: two runs of it are the same in text, status, cluster and occurrences, with
+-- If no call of a replica fails, the script alone decides: two runs of it are the same in text, status, cluster and occurrences, with
 -- however many moves, unless memory was wanting in one.
 pub faultless_scripts_decide : (script : List ℕ) (part : Option ℕ) (first second : List ℕ)
     → ((played_part part script (faultless first)).status ≡ NoMemory → ⊥)
@@ -56,14 +56,14 @@ pub faultless_scripts_decide : (script : List ℕ) (part : Option ℕ) (first se
     → played_part part script (faultless first) ≡ played_part part script (faultless second)
 faultless_scripts_decide = Rattle.rk_scripts.proofs.play.Deciding.alone_decides
 
--- Where no call of a replica fails no run ends because replicas failed.
+-- If no call of a replica fails, no run ends because replicas failed.
 pub faultless_scripts_have_no_replica_fault : (script : List ℕ) (part : Option ℕ) (moves : List ℕ)
     → (played_part part script (faultless moves)).status ≡ ReplicaFault → ⊥
 faultless_scripts_have_no_replica_fault = Rattle.rk_scripts.proofs.play.Unfailing.never_fails
 
 -- ---- settling ends
 
--- `settle` ends. It begins in a cluster to which a run of a new one has led, and where each client that has a session was added in each
+-- `settle` ends. It begins in a cluster to which a run of a new one has led, and in which each client that has a session was added in each
 -- lane. Whichever replicas an adversary lets fail, by all that has occurred before: after finitely many moves no task is left and the
 -- cluster is at rest, or `settle` stops, since a lane is worn or replicas have failed in too many rounds. What the other replicas answer is
 -- what they store.
@@ -76,8 +76,8 @@ settle_ends masters backups before adversary few backed few_backups run added =
     reached_ends adversary masters backups (cluster_run (new_cluster masters backups) before)
     (record { few_masters = few; backed = backed; few_backups = few_backups; before = before; run = run; is = refl }) added
 
--- Where no replica fails, `settle` comes to rest unless a lane is worn: with the premises of `settle_ends` (`settle_rests`), and with none
--- where a script has ended, or so many of its first commands alone, whichever replicas failed in it (`scripts_rest`).
+-- If no replica fails, `settle` comes to rest unless a lane is worn: with the premises of `settle_ends` (`settle_rests`), and with none
+-- once a script has ended, or so many of its first commands alone, whichever replicas failed in it (`scripts_rest`).
 -- `Rests` says that after finitely many moves no task is left and the cluster is at rest, or `settle` stops, but not because replicas
 -- failed (Moves here).
 pub settle_rests : (masters backups : ℕ) (before : List Occurrence) → masters ≤ MOST_MASTERS → 1 ≤ backups → backups ≤ MOST_BACKUPS
@@ -90,9 +90,9 @@ settle_rests masters backups before few backed few_backups run added =
 pub scripts_rest : (script : List ℕ) (part : Option ℕ) (fates : List (List Fate)) → Rests (settling (played_part part script fates).cluster)
 scripts_rest = Rattle.rk_scripts.proofs.settle.Scripts.scripts_rest
 
--- `priority` ends for each tablet, and `serve` for each client, also where the command would be refused; and `advance` ends for each tablet
--- and reach where it is not refused: after finitely many moves no task is left, or the command stops, since a lane is worn or replicas have
--- failed in too many rounds. It is so in each cluster to which a run of a new one has led, and where each client that has a session was
+-- `priority` ends for each tablet, and `serve` for each client, also if the command would be refused; and `advance` ends for each tablet
+-- and reach if it is not refused: after finitely many moves no task is left, or the command stops, since a lane is worn or replicas have
+-- failed in too many rounds. It is so in each cluster to which a run of a new one has led, and in which each client that has a session was
 -- added in each lane, whichever replicas an adversary lets fail.
 -- `AlwaysEnds` says that of a command, with the premises of `settle_ends`, and `EndsUnlessRefused` with one more, that the code by which
 -- the command is refused does not apply (Moves here). `advance` needs that: a target that has crashed takes no turn, however often it is
@@ -117,7 +117,7 @@ advance_ends tablet reach =
     (λ s allowed sane. advanced s tablet reach
     (first_at s.start tablet reach (reached_eight s.masters s.backups s.start s.reached) allowed) sane)
 
--- `settle` ends where a script has ended, or so many of its first commands alone (`part`): whatever the script says, however its run ended,
+-- `settle` ends once a script has ended, or so many of its first commands alone (`part`): whatever the script says, however its run ended,
 -- whichever replicas failed in it (`fates`), and whichever an adversary lets fail from there on (`scripts_settle`). There each client that
 -- has a session was added in each lane (`scripts_added`). No other premise is left, since each script played is a run (`play`).
 -- There each other command ends too that ends in each cluster to which a run has led, unless it is refused there (`scripts_end_commands`),
@@ -139,7 +139,7 @@ scripts_end_commands = Rattle.rk_scripts.proofs.settle.Scripts.scripts_end_comma
 -- Whatever a script says and whichever calls of replicas fail, its text, and that of its first commands, is made of pieces, one of each
 -- command in their order: `where`, `dump` and `history` show the cluster of the run as it is at that command, and any other command writes
 -- what clients said at it. The replies among them are the receipts that the clients' sessions have at the end, client by client and in
--- their order: all of them where the run is done or refused, and else a first part, since a command at which a run stops writes nothing.
+-- their order: all of them if the run is done or refused, and else a first part, since a command at which a run stops writes nothing.
 pub replies_are_receipts : (script : List ℕ) (part : Option ℕ) (fates : List (List Fate))
     → AreAnswers (acting_in part script) (played_part part script fates)
 replies_are_receipts = Rattle.rk_scripts.proofs.answers.Playing.script_answers

@@ -1,4 +1,4 @@
--- Of eight lanes by rising number, no count of faults is below those of the roster just where none is below them in any of these lanes.
+-- Of eight lanes by rising number, no count of faults is below those of the roster exactly if none is below them in any of these lanes.
 use Rattle.rk_shared_lanes.proofs.Words.{◌≡◌, ◌≤◌, ◌<◌, ℕ, List, [], ◌∷◌, length, Option, None, Some, refl, sym, ap, subst, ◌∙◌, ⊎_elim}
 use Rattle.rk_shared_lanes.proofs.Words.{arith, All, All-nil, LANES, LaneState, Counts, RoseBy, lane_counts, IsNoneBelow, numbers_of}
 use Rattle.std.proofs.Common.{suc, get_or, slice_get}

@@ -1,4 +1,4 @@
--- What lanes and sessions keep behind locks and in passes is so of those where nothing was asked.
+-- What lanes and sessions keep behind locks and in passes holds of those in which nothing was asked.
 use Rattle.rk_shared_lanes.proofs.Words.{◌≡◌, ◌^◌, ◌<◌, ℕ, false, List, [], Option, sym, ap, ◌∙◌, arith, false≢true, Placed, LANES}
 use Rattle.rk_shared_lanes.proofs.Words.{Segments, LaneState, Counts, accepted_count, HasCountedCalls, IsKept, IsNoneBelow, IsPart}
 use Rattle.rk_shared_lanes.proofs.Words.{IsSoundOrSpent, IsOfRoster, IsUnasked}

@@ -11,7 +11,7 @@ use Rattle.rk_laws_lanes.specs.Counts.{accepted_count}
 use Rattle.rk_laws_lanes.specs.GoodLane.{IsGoodLane}
 use Rattle.rk_laws_lanes.specs.gathered.OpenCalls.{HasCountedCalls}
 
--- a lane where this runs stands for a good world: what its backups store is what their replicas tell
+-- a lane in which this runs represents a good world: what its backups store is what their replicas report
 pub record StandsFor {R : Type 0} (segments : R → Option Segments) (lane : LaneState R) (running : Running) : Type 0 where
   pub stored : NumberMap Segments
   pub told : AreTold segments lane.backups stored
@@ -34,7 +34,7 @@ abbrev pub IsPart : ℕ × ℕ → ℕ → Type 0
 IsPart share amount = (share.0 ≡ 1) × (share.1 ≡ amount)
 
 -- a lane has so many masters and backups, these clients, and a number below 8, of which its share has the power of nine; another share has
--- how many calls it was asked; and no count of faults of its replicas is below these. Where what is taken for granted of replicas is so, the
+-- how many calls it was asked; and no count of faults of its replicas is below these. If what is taken for granted of replicas holds, the
 -- lane is sound or spent, a share has how many of its records are accepted, and the lane has counted its calls
 pub record IsKept {R : Type 0} (segments : R → Option Segments) (faults : R → ℕ) (tells : Type 0) (masters backups : ℕ) (clients : List ℕ) (counts : Counts) (lane : LaneState R) (accepted asked number : ℕ × ℕ) : Type 0 where
   pub masters_are : lane.masters ≡ masters

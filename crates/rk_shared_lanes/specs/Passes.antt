@@ -14,19 +14,19 @@ pub record PassState : Type 0 where
   pub session : Session
   pub counted : Bool
 
--- one where it is so
+-- one if it is so
 abbrev pub one_if : Bool → ℕ
 one_if true = 1
 one_if false = 0
 
--- each call of a session, also the outstanding one, is one that clients make
+-- each call of a session, also the outstanding one, is a call that clients make
 pub record MakesOnly (makes : Call → Type 0) (session : Session) : Type 0 where
   pub answered : All (λ receipt. makes receipt.call) session.receipts
   pub outstanding : IfSome session.outstanding makes
 
--- a session that may act in lanes with so many masters, and has a receipt for each of its calls but an outstanding one: a share has how many
--- receipts it got, and another one how many calls were asked, the outstanding one too where it was counted. Where what is taken for granted of replicas is so, the session is orderly, and its calls are
--- such as clients make
+-- a session that may act in lanes with so many masters, and has a receipt for each of its calls but an outstanding one: a share has how
+-- many receipts it got, and another one how many calls were asked, the outstanding one too if it was counted. If what is taken for granted
+-- of replicas holds, the session is orderly, and its calls are such as clients make
 pub record IsPass (tells : Type 0) (masters : ℕ) (makes : Call → Type 0) (pass : PassState) (got made : ℕ × ℕ) : Type 0 where
   pub may : MayAct masters pass.session
   pub last_is : pass.session.last ≡ length pass.session.receipts + waiting pass.session.outstanding
@@ -36,7 +36,7 @@ pub record IsPass (tells : Type 0) (masters : ℕ) (makes : Call → Type 0) (pa
   pub orderly : tells → IsOrderly pass.session.client pass.session
   pub calls : tells → MakesOnly makes pass.session
 
--- a pass may ask its call in a lane: its session fits there, and has counted the call just where the lane was asked it
+-- a pass may ask its call in a lane: its session fits there, and has counted the call exactly if the lane was asked it
 pub record Suits (w : World) (pass : PassState) : Type 0 where
   pub fits : fits w pass.session ≡ true
   pub counted : is_asked_here w pass.session ≡ pass.counted

@@ -17,8 +17,8 @@ use std::sync::ledger::Ledger;
 use std::sync::{Mutex, Wait};
 
 impl<R: Replica + Drop, L: Ledger, A: Ledger, N: Roster> KeptLane<R, L, A, N> {
-    /// A client's attempt for its outstanding call in a lane that is not spent: it asks, what it sent is delivered and forgotten, and it takes
-    /// the messages for it, oldest first, up to the first that says what became of the call. Each is forgotten.
+    /// A client's attempt for its outstanding call in a lane that is not spent: it asks, what it sent is delivered and forgotten, and it
+    /// takes the messages for it, oldest first, up to the first that says what became of the call. Each is forgotten.
     pub(crate) fn attempt<X: Wait, M: Ledger, B: Ledger>(
         &mut self,
         rt: &X,
@@ -109,7 +109,7 @@ impl<R: Replica + Drop, L: Ledger, A: Ledger, N: Roster> KeptLane<R, L, A, N> {
     }
 }
 
-// What a client took, none where it could not take the message. Want of memory is answered as such.
+// What a client took, none if it could not take the message. Want of memory is answered as such.
 fn taken_of(answer: Result<Seen, StepError>) -> Result<Option<Taken>, Short>
     ensures taken { IfOk result (λ taken. IfOk answer (λ seen. taken ≡ seen.taken)) }
     ensures none { IfOk result (λ taken. IfErr answer (λ e. (e ≢ StepError.NoMemory) × (taken ≡ None))) }

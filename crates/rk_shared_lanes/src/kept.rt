@@ -21,10 +21,10 @@ use std::marker::Model;
 use std::sync::ledger::{Ledger, Share};
 use std::sync::{Mutex, Wait};
 
-/// A lane beside its shares: of the records that are accepted, of the calls that were asked, and of its number as a power of nine. Contracts
-/// see the lane. Whenever nothing is done with it, its share of calls counts those that it was asked, and no count of faults of its replicas
-/// is below that of the roster. If its replicas report what they store, the lane is then sound or spent, and its share of records counts
-/// those that are accepted.
+/// A lane beside its shares: of the records that are accepted, of the calls that were asked, and of its number as a power of nine.
+/// Contracts see the lane. Whenever nothing is done with it, its share of calls counts those that it was asked, and no count of faults of
+/// its replicas is below that of the roster. If its replicas report what they store, the lane is then sound or spent, and its share of
+/// records counts those that are accepted.
 #[derive(Drop)]
 pub struct KeptLane<R: Replica, L: Ledger, A: Ledger, N: Roster> {
     pub(crate) lane: Lane<R>,
@@ -64,7 +64,7 @@ impl<R: Replica + Drop, L: Ledger, A: Ledger, N: Roster> KeptLane<R, L, A, N> {
         self.masters
     }
 
-    /// Whether a pass may ask its call here, in a lane that is not spent: its session fits, and the lane was asked the call just where the
+    /// Whether a pass may ask its call here, in a lane that is not spent: its session fits, and the lane was asked the call exactly if the
     /// pass counts it as asked. A few searches.
     pub fn suits<M: Ledger, B: Ledger>(&self, pass: &Pass<M, B, N>) -> bool
         ensures { IfSome self.now.running (λ running. result ≡ suits_lem (world_with self.now running []) pass.now) }

@@ -37,8 +37,8 @@ impl<M: Ledger, B: Ledger, N: Roster> Model for Pass<M, B, N> {
 }
 
 impl<M: Ledger, B: Ledger, N: Roster> Pass<M, B, N> {
-    /// The session. It may act in the lanes, and has a receipt for each of its calls but an outstanding one. It is orderly: its receipts are
-    /// of its own calls, one of each, in the order of their stamps, all of which it has seen; and its calls are such as clients make.
+    /// The session. It may act in the lanes, and has a receipt for each of its calls but an outstanding one. It is orderly: its receipts
+    /// are of its own calls, one of each, in the order of their stamps, all of which it has seen; and its calls are such as clients make.
     pub fn session(&self) -> &Session
         ensures session { result.now ≡ self.now.session }
         ensures may { MayAct N.masters self.now.session }
@@ -57,7 +57,7 @@ impl<M: Ledger, B: Ledger, N: Roster> Pass<M, B, N> {
         self.counted
     }
 
-    /// Asks the client's next call, as its session does; `Busy` with the seq of the outstanding call comes exactly where there is one. The
+    /// Asks the client's next call, as its session does; `Busy` with the seq of the outstanding call comes exactly if there is one. The
     /// call is not counted before a lane is asked it. After an error nothing has changed.
     pub fn ask(&mut self, table: u64, key: Key, op: Op) -> Result<u64, AskError>
         requires lawful { IsLawfulCall (next_call self.old.session table key op) }

@@ -79,8 +79,8 @@ impl<R: Replica + Drop, L: Ledger, M: Ledger, A: Ledger, B: Ledger, N: Roster> S
         self.lanes[(LANES - 1 - lane) as usize].lock(rt)
     }
 
-    /// A client's attempt for its outstanding call, in a lane that the session fits and that was asked the call just where the pass counts it
-    /// as asked; in any other lane nothing changes, and the client goes on waiting.
+    /// A client's attempt for its outstanding call, in a lane that the session fits and that was asked the call exactly if the pass counts
+    /// it as asked; in any other lane nothing changes, and the client goes on waiting.
     pub fn attempt<X: Wait, G: Gate>(
         &self,
         rt: &X,
@@ -138,8 +138,8 @@ impl<R: Replica + Drop, L: Ledger, M: Ledger, A: Ledger, B: Ledger, N: Roster> S
         kept.replay(parcel.number)
     }
 
-    /// Takes the locks apart once all passes are back: the lanes by rising number, each with the clients of the sessions, and the sessions in
-    /// their order. As many receipts were got as records are accepted, if that is taken for granted of the replicas, and at most as many
+    /// Takes the locks apart once all passes are back: the lanes by rising number, each with the clients of the sessions, and the sessions
+    /// in their order. As many receipts were got as records are accepted, if that is taken for granted of the replicas, and at most as many
     /// calls were asked of lanes as the sessions made. No count of faults of a replica has fallen. It takes no memory.
     pub fn gather(self, passes: Vec<Pass<M, B, N>>) -> Gathered<R>
         requires lanes { (L.parts ≡ LANES) × (A.parts ≡ LANES) × (N.parts ≡ LANES) }

@@ -20,8 +20,8 @@ use std::marker::PhantomData;
 use std::sync::Mutex;
 use std::sync::ledger::{Blank, Book, Ledger, Share};
 
-/// The blanks of the ledgers: of the records that lanes accept and the receipts that clients get, of the calls that lanes are asked and that
-/// clients make, and of the numbers of lanes.
+/// The blanks of the ledgers: of the records that lanes accept and the receipts that clients get, of the calls that lanes are asked and
+/// that clients make, and of the numbers of lanes.
 #[derive(Drop)]
 pub struct Blanks {
     pub accepted: Blank,
@@ -155,8 +155,8 @@ impl<M: Ledger, B: Ledger, N: Roster> Passing<M, B, N> {
     }
 }
 
-/// Puts each of eight lanes, where no call was asked, behind a lock of its own, and each session, of a client of these lanes that asked
-/// nothing, into a pass; the last session first. No count of faults of a replica is below that of the roster. After `NoMemory` all of them are dropped.
+/// Puts each of eight lanes that were asked no call behind its own lock, and each session, of a client of these lanes that asked nothing,
+/// into a pass; the last session first. No replica's count of faults is below that of the roster. After `NoMemory` all are dropped.
 pub fn share<R: Replica + Drop, L: Ledger, M: Ledger, A: Ledger, B: Ledger, N: Roster>(
     alloc: Global,
     masters: u8,

@@ -17,7 +17,7 @@ name_cmp a b = ordering_then (nat_cmp a.0 b.0) (nat_cmp a.1 b.1)
 abbrev pub one_at : ℕ → ℕ → ℕ → ℕ → ℕ
 one_at client seq other asked = if client == other && (seq == asked) then 1 else 0
 
--- 1 for the client and seq that are told, and 0 for each other
+-- 1 for the client and seq that are given, and 0 for each other
 abbrev pub weight : Option (ℕ × ℕ) → ℕ → ℕ → ℕ
 weight None other asked = 0
 weight (Some name) other asked = one_at name.0 name.1 other asked

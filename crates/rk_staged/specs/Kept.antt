@@ -26,7 +26,7 @@ abbrev pub many_of : List Held → ℕ → List ℕ → ℕ
 many_of [] table key = 0
 many_of (item ∷ items) table key = (if is_of table key item then 1 else 0) + many_of items table key
 
--- what is kept of the newest item, where there are so many
+-- what is kept of the newest item, if there are so many
 abbrev pub kept_of : Option Held → ℕ → Option Kept
 kept_of None count = None
 kept_of (Some item) count = Some (record { version = item.version; is_live = is_some item.value; count = count })
@@ -47,7 +47,7 @@ kept_with (Some old) item =
 abbrev pub IsKept : BTreeMap Name Kept → List Held → Type 0
 IsKept tree items = (table : ℕ) (key : List ℕ) → get name_cmp tree (table, key) ≡ kept items table key
 
--- the newer of what was found of a record and of an entry, where that is an item of the record
+-- the newer of what was found of a record and of an entry, if that is an item of the record
 abbrev pub newer_in : Option Held → Entry → ℕ → List ℕ → Option Held
 newer_in found (entries.Held item) table key = if is_of table key item then Some (newer_of found item) else found
 newer_in found _ table key = found

@@ -56,8 +56,8 @@ impl StagedCalls {
         self.calls.get(place)
     }
 
-    /// Stages a call at this place; one that was there is dropped. After `NoMemory` the calls are as they were, and the
-    /// new one is dropped. A few searches.
+    /// Stages a call at this place; a call that was there is dropped. After `NoMemory` the calls are as they were, and
+    /// the new one is dropped. A few searches.
     pub fn insert(&mut self, place: u64, call: Call) -> Result<(), NoMemory>
         ensures ok { OnOk result (self.new ≡ map.insert self.old place call) }
         ensures err { OnErr result (self.new ≡ self.old) }
@@ -83,7 +83,7 @@ fn name_at(calls: &Numbered<Call>, place: u64) -> Option<(u32, u64)>
     Some((call.client, call.seq))
 }
 
-// Counts one call less of this client and seq, where they are told.
+// Counts one call less of this client and seq, if they are given.
 fn forget(counts: &mut CallCounts, name: Option<(u32, u64)>)
     ensures { (client seq : ℕ) → counted counts.new client seq ≡ counted counts.old client seq - weight name client seq }
 {

@@ -54,7 +54,7 @@ impl StagedEntries {
         self.newest.get(name).copied()
     }
 
-    /// Takes in the entry that is staged last. Two searches where it is an item.
+    /// Takes in the entry that is staged last. Two searches if it is an item.
     pub fn push(&mut self, entry: Entry) -> Result<(), NoMemory>
         ensures { OnOk result ((entries : List Staged)
             → AreStaged self.old entries → AreStaged self.new (entries ++ entry ∷ [])) }
@@ -64,7 +64,7 @@ impl StagedEntries {
         Ok(())
     }
 
-    // Keeps what is to be kept of the entry that is staged last, where it is an item.
+    // Keeps what is to be kept of the entry that is staged last, if it is an item.
     fn take_in(&mut self, entry: &Entry) -> Result<(), NoMemory>
         ensures kept { OnOk result ((items : List Item)
             → IsKept self.old.newest items → IsKept self.new.newest (items ++ items_in entry.now)) }
@@ -91,8 +91,8 @@ impl StagedEntries {
         Ok(())
     }
 
-    /// Takes out the entry that was staged first; none where nothing is staged. A few searches where it is an item, and a
-    /// step for each of the others only where it is the newest of several of its record. It takes no memory.
+    /// Takes out the entry that was staged first; none if nothing is staged. A few searches if it is an item, and a step
+    /// for each of the others only if it is the newest of several of its record. It takes no memory.
     pub fn pop(&mut self) -> Option<Entry>
         ensures first { (entry : Staged) (entries : List Staged)
             → AreStaged self.old (entry ∷ entries) → result ≡ Some entry }
@@ -197,7 +197,7 @@ fn newest_of<'a>(
     best
 }
 
-// The newer of the newest item so far and of an entry, where that is an item of the table and key.
+// The newer of the newest item so far and of an entry, if that is an item of the table and key.
 fn newer<'a>(best: Option<&'a Held>, entry: &'a Entry, name: &(u64, Key)) -> Option<&'a Held>
     ensures { option_copied result ≡ newer_in (option_copied best.entry) entry.now name.now.0 name.now.1 }
 {

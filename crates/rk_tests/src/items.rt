@@ -16,7 +16,7 @@ pub const WHOLE: Range = Range {
     last: u64::MAX,
 };
 
-/// An item of table 1, made by client 1 with its version as the seq; it is a tombstone where the value has no bytes.
+/// An item of table 1, made by client 1 with its version as the seq; it is a tombstone if the value has no bytes.
 pub fn item(alloc: Global, key: &[u8], version: u64, value: &[u8]) -> Result<Held, TextError>
     ensures lawful { 1 ≤ version → IfOk result IsLawfulHeld }
 {
@@ -66,7 +66,7 @@ pub enum Told {
     Mismatch(u64),
 }
 
-/// The outcome that is told.
+/// The outcome that is given with its value as text.
 pub fn outcome_of(alloc: Global, told: Told) -> Result<Outcome, TextError> {
     Ok(match told {
         Told::Found(version, value) => Outcome::Found(version, Value::new(alloc, value)?),
@@ -110,7 +110,7 @@ pub fn put(table: &mut SortedTable, item: Held) -> Result<bool, NoMemory>
     Ok(table.put_if_newer(item))
 }
 
-/// Bytes with some of them spoilt: the place of each, and what stands there.
+/// Bytes with some of them spoilt: the place of each, and what is put there.
 pub fn spoilt(alloc: Global, bytes: &[u8], rows: &[(usize, u8)]) -> Result<Vec<u8>, NoMemory> {
     let mut bytes = Vec::from_slice(alloc, bytes)?;
     for (place, byte) in rows {
@@ -121,7 +121,7 @@ pub fn spoilt(alloc: Global, bytes: &[u8], rows: &[(usize, u8)]) -> Result<Vec<u
     Ok(bytes)
 }
 
-/// The first of rows that stand one after the other, each behind a byte that tells its length, and the rest.
+/// The first of rows that come one after the other, each behind a byte that gives its length, and the rest.
 pub fn split_row(rows: &[u8]) -> Option<(&[u8], &[u8])> {
     let (count, rest) = rows.split_first()?;
     rest.split_at_checked(usize::from(*count))

@@ -39,7 +39,7 @@ fn append<R: Abort + AllocGlobal>(
     Ok(())
 }
 
-// What the first of two backups tells of a segment, or else the second.
+// What the first of two backups reports of a segment, or else the second.
 fn told(log: &mut MasterLog, is_first: bool, segment: u32, count: u32) -> Result<(), Overreach>
     requires { length log.old.known ≡ 2 }
     ensures { length log.new.known ≡ 2 }
@@ -66,7 +66,7 @@ fn log_of_one<R: Abort + AllocGlobal>(rt: &R) -> Result<MasterLog, Fail>
     Ok(log)
 }
 
-// A backup tells of a segment, and then so many entries are committed.
+// A backup reports what it has of a segment, and then so many entries are committed.
 fn check_told<R: Abort>(rt: &R, log: &mut MasterLog, report: (bool, u32, u32), committed: u64)
     requires { length log.old.known ≡ 2 }
     ensures { length log.new.known ≡ 2 }
@@ -123,7 +123,7 @@ fn reads_its_entries(rt: HostRuntime) -> Result<(), Fail> {
     check_entries(&rt, &log, 1, b"", 1)
 }
 
-// What is too much to tell for the first backup of a segment.
+// What is too much for the first backup to report of a segment.
 fn check_excess<R: Abort>(rt: &R, log: &mut MasterLog, segment: u32, bytes: u32, limit: u32)
     requires { length log.old.known ≡ 2 }
     ensures { length log.new.known ≡ 2 }
@@ -208,7 +208,7 @@ fn log_with_side(alloc: Global) -> Result<MasterLog, Fail>
     Ok(log)
 }
 
-// The second backup tells of segment 1, and what it lacks first then.
+// The second backup reports what it has of segment 1, and what it lacks first then.
 fn check_sent<R: Abort>(rt: &R, log: &mut MasterLog, count: u32, wanted: (u32, u32, usize))
     requires { length log.old.known ≡ 2 }
     ensures { length log.new.known ≡ 2 }

@@ -32,7 +32,7 @@ fn record(
     })
 }
 
-// A table, a key of one byte, and what was asked and told there.
+// A table, a key of one byte, and what was asked and answered there.
 type Step = (u64, &'static [u8; 1], Asked, Told);
 
 // The records of these steps, and then of one more.
@@ -53,7 +53,7 @@ fn may_end(alloc: Global, steps: &[Step], asked: Asked, told: Told) -> Result<bo
     Ok(replays(alloc, history.as_slice())?.is_none())
 }
 
-// For each of nine outcomes `+` where the operation may have it after these steps, of which the last version is this
+// For each of nine outcomes `+` if the operation may have it after these steps, of which the last version is this
 // one, and else `-`.
 fn marks(alloc: Global, steps: &[Step], last: u64, asked: Asked) -> Result<[u8; 9], Fail> {
     let above = last.wrapping_add(1);
@@ -77,7 +77,7 @@ fn marks(alloc: Global, steps: &[Step], last: u64, asked: Asked) -> Result<[u8; 
     Ok(marks)
 }
 
-// What may come where a key never had a record, has version 1 of `x`, or lost it at version 2. The marks were written
+// What may come if a key never had a record, has version 1 of `x`, or lost it at version 2. The marks were written
 // out from the table of the map machine, apart from this code.
 #[test]
 fn allows_what_the_machine_allows(rt: HostRuntime) -> Result<(), Fail> {

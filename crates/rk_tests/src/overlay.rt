@@ -66,8 +66,8 @@ const X: Row = (3, 1, b"a", b"x");
 const Y: Row = (3, 1, b"a", b"y");
 
 // Two lists, and the one laid over the other. A tombstone is newer than a value with a smaller version, whichever list has
-// it. Of two items of one key and one version that of the first list counts, and of one list the first. The result
-// stands by version, then by table, then by the bytes of the key, where a shorter key comes first.
+// it. Of two items of one key and one version that of the first list counts, and of one list the first. The result is
+// ordered by version, then by table, then by the bytes of the key, with a shorter key first.
 const ROWS: &[(&[Row], &[Row], &[Row])] = &[
     (&[], &[], &[]),
     (&[VALUE], &[TOMBSTONE], &[TOMBSTONE]),

@@ -102,7 +102,7 @@ fn row_rebuilding(alloc: Global) -> Result<Row, NoMemory> {
     })
 }
 
-// The phase of a tablet changes where it is there.
+// The phase of a tablet changes if it is there.
 fn change(alloc: Global, map: &mut TabletMap, tablet: u32) -> Result<bool, NoMemory> {
     Ok(map.change(tablet, 2, rebuilding(alloc)?))
 }

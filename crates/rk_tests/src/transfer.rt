@@ -2,8 +2,8 @@ use crate::comparing::same;
 use rk_transfer::{Handover, Role};
 use rk_types::Range;
 
-// The moves: a join that brings its place and one that does not, and an own that is told in time and one that is told
-// too early.
+// The moves: a join that brings its place and a join that does not, and an own that comes in time and an own that
+// comes too early.
 #[derive(Clone, Copy)]
 enum Move {
     Prepare,
@@ -70,7 +70,7 @@ fn apply(handover: &mut Handover, step: Move, term: u64) -> bool {
 }
 
 // For each move the term at which it comes, the range and the counter after it, and the role after it for each role
-// before it, a dot where the move does not apply. The term before it is 5.
+// before it, a dot if the move does not apply. The term before it is 5.
 #[test]
 fn moves_by_the_table(rt: HostRuntime) {
     let roles = b"ascfwrjJbB";

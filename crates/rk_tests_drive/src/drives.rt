@@ -1,4 +1,4 @@
-// Whole drives on threads where replicas fail: that they end, and what is written.
+// Whole drives on threads with replicas that fail: that they end, and what is written.
 use rk_drive::{Plan, drive};
 use rk_outside::{MemoryReplica, MemorySink, OpenGate};
 use rk_types::Status;

@@ -282,7 +282,7 @@ fn numbers_the_kinds(rt: HostRuntime) -> Result<(), Fail> {
     Ok(())
 }
 
-// Two entries stand before one that is cut.
+// Two entries come before an entry that is cut.
 #[test]
 fn stops_where_no_entry_stands(rt: HostRuntime) -> Result<(), Fail> {
     let mut bytes = Vec::from_slice(rt.alloc(), OBJECT)?;

@@ -21,7 +21,7 @@ struct Pair<'a> {
     ghost masters: { lane.masters ≡ 2 },
 }
 
-// The number of the first message that an event sends, 0 where there is none, and how many it sends.
+// The number of the first message that an event sends, 0 if there is none, and how many it sends.
 type Sent = (u64, u64);
 
 // One replica.

@@ -1,6 +1,6 @@
 //! The tests of what no script shows of a lane, a client that has seen the greatest stamps, and of the calls that wait at a master.
 //!
-//! A module has the tests of one crate. What several of them are made of stands in [`rk_tests::items`].
+//! A module has the tests of one crate. What several of them are made of is in [`rk_tests::items`].
 #![tactic(auto)]
 
 #[cfg(test)]

@@ -16,7 +16,7 @@ fn append_of(alloc: Global, at: u32, bytes: &[u8]) -> Result<Append, NoMemory> {
     })
 }
 
-// How many bytes a backup tells in an answer.
+// How many bytes a backup reports in an answer.
 fn stored_in(message: &Message) -> Option<u32> {
     match &message.body {
         Body::Stored(stored) => Some(stored.length),
@@ -24,7 +24,7 @@ fn stored_in(message: &Message) -> Option<u32> {
     }
 }
 
-// How many bytes a backup tells once it took such bytes of master 1.
+// How many bytes a backup reports once it took such bytes of master 1.
 fn told(
     backup: &mut BackupLane<MemoryReplica<'_>>,
     alloc: Global,
@@ -41,7 +41,7 @@ fn told(
     Ok(stored_in(&take_append(backup, alloc, 1, &append)?))
 }
 
-// How many bytes the copy in an answer has, where there is one.
+// How many bytes the copy in an answer has, if there is one.
 fn copied_in(message: &Message) -> Option<usize> {
     match &message.body {
         Body::Copy(copy) => Some(copy.bytes.as_ref()?.as_slice().len()),
@@ -49,7 +49,7 @@ fn copied_in(message: &Message) -> Option<usize> {
     }
 }
 
-// How many bytes the copy of a segment of master 1 has, where it has some, by what its log has.
+// How many bytes the copy of a segment of master 1 has, if it has some, by what its log has.
 fn copied(
     backup: &mut BackupLane<MemoryReplica<'_>>,
     alloc: Global,

@@ -176,8 +176,8 @@ fn check_carried<R: Abort + AllocGlobal>(rt: &R, gather: &Gather) -> Result<(), 
     check_ends(rt, &gather.merge(&[&own])?)
 }
 
-// Master 2 is not of the lineage, and its own entries come last: the end of client 1 that they tell again has its place
-// there, and so the end of client 2 comes first.
+// Master 2 is not of the lineage, and its own entries come last: the end of client 1 that they record again has its
+// place there, and so the end of client 2 comes first.
 #[test]
 fn an_end_has_its_place_where_it_is_told_last(rt: HostRuntime) -> Result<(), Fail> {
     let mut gather = gather(rt.alloc(), &[(1, 0)])?;

@@ -57,8 +57,8 @@ fn check_streams<R: Abort + AllocGlobal>(
     Ok(())
 }
 
-// Plays a script where some calls of the replica at a place fail and keep so many bytes, and tests what comes of it: how long
-// the first segment of master 1 is in that replica, too.
+// Plays a script in which some calls of the replica at a place fail and keep so many bytes, and tests what comes of it: how
+// long the first segment of master 1 is in that replica, too.
 fn check_replica<R: Abort + AllocGlobal>(
     rt: &R,
     lines: &str,

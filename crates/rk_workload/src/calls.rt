@@ -12,7 +12,7 @@ pub const TABLE: u64 = 1;
 /// The one tablet of that table.
 pub const TABLET: u32 = 1;
 
-/// A client's call of this number, the first of which is 1, where the clients use so many keys.
+/// A client's call of this number, the first of which is 1, if the clients use so many keys.
 pub fn call(alloc: Global, keys: u32, client: u32, seq: u32) -> Result<Call, NoMemory>
     requires keys { 0 < keys }
     requires seq { 1 ≤ seq }

@@ -77,7 +77,7 @@ fn push_owner(text: &mut Vec<u8>, owner: Option<u8>) -> Result<(), NoMemory>
     }
 }
 
-/// Adds the lines of what a drive came to, before those of its audit. After `NoMemory` a part of them may stand there.
+/// Adds the lines of what a drive came to, before those of its audit. After `NoMemory` a part of them may have been written.
 pub fn push_results(text: &mut Vec<u8>, summary: &Summary) -> Result<(), NoMemory>
     ensures { OnOk result (text.new.items ≡ text.old.items ++ result_lines summary.now) }
 {

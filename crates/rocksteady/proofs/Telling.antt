@@ -1,4 +1,4 @@
--- A script played is one map, and is done where nothing fails.
+-- A script played is one map, and is done if nothing fails.
 use Rattle.std.proofs.Common.{◌≡◌, ◌⊎◌, List, ℕ, ap, sym, inl, inr, refl, ◌∙◌, arith}
 use Rattle.std.specs.Prelude.{Option, None, Some, IfSome}
 use Rattle.rk_types.specs.declared.status.Status.{Status}

@@ -20,15 +20,15 @@ use Rattle.rk_scripts.specs.answers.Pieces.{AreAnswers, acting_in}
 abbrev pub usage_text : List ℕ
 usage_text = codes "usage: rocksteady play\nusage: rocksteady drive CLIENTS CALLS KEYS [crash M AFTER] [history]\n"
 
--- with wrong words the forms are written, or a part of them where the sink fails
+-- with wrong words the forms are written, or a part of them if the sink fails
 abbrev pub Refuses : Status → Option (List ℕ) → Option (List ℕ) → Type 0
 Refuses Usage old new = Appends old new usage_text
 Refuses WriteFault old new = AppendsPart old new usage_text
 Refuses _ old new = ⊥
 
 -- a run of a script over replicas says what `play` says: by some fates of the calls of replicas, and for a script or for its first commands
--- alone. The replies in the text of that run are the receipts of its sessions; it is a run of the definitions from a new cluster, and so has one
--- history. Where no count of a replica rose no call of one failed, and the run is that of the script alone
+-- alone. The replies in the text of that run are the receipts of its sessions; it is a run of the definitions from a new cluster, and so
+-- has one history. If no count of a replica rose, no call of one failed, and the run is that of the script alone
 pub record PlaysOneMap {R : Type 0} (segments : R → Option Segments) (faults : R → ℕ) (script : List ℕ) (status : Status) (old new : Option (List ℕ)) (before after : List R) : Type 0 where
   pub plays : Plays segments faults script status old new before after
   pub answers : AreAnswers (acting_in plays.part script) (played_part plays.part script plays.fates)
@@ -40,8 +40,8 @@ abbrev pub IsSmooth : List ℕ → Type 0
 IsSmooth script =
     (moves : List ℕ) → let it = played script (faultless moves) in (it.status ≡ Refused → ⊥) × (it.status ≡ Worn → ⊥)
 
--- by some fates of the calls of replicas a run of a script, or of its first commands, has this status, and its sink holds what was written, in
--- which the replies are the receipts of the sessions; it is a run of the definitions
+-- by some fates of the calls of replicas a run of a script, or of its first commands, has this status, and its sink holds what was written,
+-- in which the replies are the receipts of the sessions; it is a run of the definitions
 pub record IsPlayed (script : List ℕ) (status : Status) (old new : Option (List ℕ)) : Type 0 where
   pub part : Option ℕ
   pub may : MayBePart status (count_of (script_of script)) part
@@ -58,7 +58,7 @@ pub record DrivesOver {R : Type 0} (segments : R → Option Segments) (plan : Pl
   pub drives : Drives segments plan old new before after status
   pub done : status ≡ Done → EndsDone segments plan old new before after
 
--- how a drive may end where nothing failed
+-- how a drive may end if nothing failed
 abbrev pub EndsUnfailed : Status → Type 0
 EndsUnfailed Done = ⊤
 EndsUnfailed Audit = ⊤

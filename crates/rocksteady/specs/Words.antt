@@ -4,7 +4,7 @@ use Rattle.std.specs.Vec.Iter.{into_iter_items}
 use Rattle.std.specs.declared.vec.IntoIter.{IntoIter}
 use Rattle.rk_drive.specs.Words.{plan_in}
 
--- the words after the first, which is the name of the program; none where one of the words is not text
+-- the words after the first, which is the name of the program; none if one of the words is not text
 abbrev pub words_after : {Word Alloc E : Type 0} → Result (IntoIter Word Alloc) E → List Word
 words_after (Ok words) = drop 1 (into_iter_items words)
 words_after (Err e) = []

@@ -1,6 +1,6 @@
-// What a refused script is told on standard error.
+// What is said of a refused script on standard error.
 
-/// What the code of a refusal means, in one line; none where there is no such code.
+/// What the code of a refusal means, in one line; none if there is no such code.
 pub(crate) fn meaning(code: u8) -> Option<&'static str> {
     let text = match code {
         1 => "code 1: there is no such command, operation or reach",

@@ -1,8 +1,8 @@
 //! Rocksteady: live migration of tablets between log-structured key-value masters, with exactly-once calls.
 //!
-//! `rocksteady play` reads a script from standard input and writes its text to standard output. `rocksteady drive` runs clients, a migration
-//! and a crash on threads, and writes the outcome. It stands on `rk_play` and `rk_drive`; [`run::run`] is the top call, whose contract ties
-//! the bytes written to those of the script, or to one history of the calls that the clients made.
+//! `rocksteady play` reads a script from standard input and writes its text to standard output. `rocksteady drive` runs clients, a
+//! migration and a crash on threads, and writes the outcome. It builds on `rk_play` and `rk_drive`; [`run::run`] is the top call, whose
+//! contract ties the bytes written to those of the script, or to one history of the calls that the clients made.
 #![tactic(auto)]
 
 mod hint;
@@ -32,7 +32,7 @@ use std::process::ExitCode;
 use std::sync::Wait;
 use std::thread::Threads;
 
-/// The variable of the environment that asks a drive for its progress where standard error is no terminal.
+/// The variable of the environment that asks a drive for its progress if standard error is no terminal.
 const PROGRESS: &str = "ROCKSTEADY_PROGRESS";
 
 /// How many replicas a run has: one for each of four backups and eight lanes.
@@ -57,7 +57,7 @@ fn after_name(alloc: Global, words: Args) -> Result<Vec<String>, NoMemory>
     Ok(words.skip(1).collect(alloc)?)
 }
 
-// The words after the program's name. Where one of its words is not text they are none, which is no form of the program.
+// The words after the program's name. If one of them is not text, there are none, which is no form of the program.
 fn given_words(alloc: Global, given: io::Result<Args>) -> Result<Vec<String>, NoMemory>
     ensures words { IfOk result (λ words. words.items ≡ words_after given) }
     ensures memory { IfErr given (λ e. error_kind e ≡ ErrorKind.OutOfMemory → IsErr result) }
@@ -104,14 +104,14 @@ fn start<X: Threads + Wait + Sync, S: Source, K: Sink, G: Gate + Watch + Sync>(
     )
 }
 
-// Says on standard error what the code of a refusal means. Where that cannot be said, the status and the text say enough.
+// Says on standard error what the code of a refusal means. If that cannot be said, the status and the text say enough.
 fn tell_hint(rt: &HostRuntime, code: Option<u8>) {
     if let Some(hint) = code.and_then(meaning) {
         let _ = rt.eprintln(hint);
     }
 }
 
-// Whether the progress of a drive is shown: on a terminal, and where a variable asks for it.
+// Whether the progress of a drive is shown: on a terminal, or if a variable asks for it.
 fn shows_progress(rt: &HostRuntime) -> bool {
     rt.stderr().is_terminal() || env::var(rt, PROGRESS).is_ok()
 }

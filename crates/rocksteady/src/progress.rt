@@ -4,11 +4,11 @@ use rk_outside::{Gate, Point};
 use std::sync::atomic::{AtomicU8, AtomicU64, Ordering};
 use std::time::Clock;
 
-/// Stands for no master in the list of owners.
+/// Means no master in the list of owners.
 const NOBODY: u8 = 0;
 
-/// A gate that holds up nobody and, if it is asked to, writes a line a second to standard error: how many calls are answered, and in how many
-/// lanes which master owns the table.
+/// A gate that holds up nobody and, if it is asked to, writes a line a second to standard error: how many calls are answered, and in how
+/// many lanes which master owns the table.
 #[derive(Drop)]
 pub(crate) struct Progress<'a, X> {
     rt: &'a X,

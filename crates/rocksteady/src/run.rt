@@ -80,14 +80,14 @@ pub fn run<
         → IfSome (S.left source.old) (λ script. PlaysOneMap R.segments R.faults script result.status (K.written sink.old) (K.written sink.new)
         replicas.old.items replicas.new.items) }
 
-    // A script that meets no code and no lane that is worn is done, or memory was wanting, where neither source, sink nor replica failed.
+    // A script that meets no code and no lane that is worn is done, or memory was wanting, if neither source, sink nor replica failed.
     ensures complete { is_play (map string_bytes words.now) ≡ true → AreEmpty R.segments replicas.old.items
         → IfSome (S.left source.old) (λ script. IsSmooth script
         → NoneRose (replica_counts R.faults replicas.old.items) (replica_counts R.faults replicas.new.items)
         → (result.status ≡ Status.ReadFault → ⊥) → (result.status ≡ Status.WriteFault → ⊥) → (result.status ≡ Status.Done) ⊎ (result.status ≡ Status.NoMemory)) }
 
-    // A drive either runs out of memory and writes nothing, or all calls of the plan were answered: then its lanes and sessions come to rest,
-    // its receipts are held against the journals, and the outcome is written.
+    // A drive either runs out of memory and writes nothing, or all calls of the plan were answered: then its lanes and sessions come to
+    // rest, its receipts are held against the journals, and the outcome is written.
     ensures drives { IfOk (plan_in (map string_bytes words.now)) (λ plan. Drives R.segments plan (K.written sink.old) (K.written sink.new)
         replicas.old.items replicas.new.items result.status) }
 
@@ -98,13 +98,13 @@ pub fn run<
         → EndsDone R.segments plan (K.written sink.old) (K.written sink.new) replicas.old.items replicas.new.items) }
     ensures drive_ends { IfOk (plan_in (map string_bytes words.now)) (λ _. MayEnd result.status) }
 
-    // Where neither the sink nor a replica failed, a drive that ends is done, or its audit differs, a lane is worn, or memory was wanting.
+    // If neither the sink nor a replica failed, a drive that ends is done, or its audit differs, a lane is worn, or memory was wanting.
     ensures drive_complete { IfOk (plan_in (map string_bytes words.now)) (λ _.
         NoneRose (replica_counts R.faults replicas.old.items) (replica_counts R.faults replicas.new.items)
         → (result.status ≡ Status.WriteFault → ⊥) → EndsUnfailed result.status) }
     ensures wrong_words { IsNoForm (map string_bytes words.now) → Refuses result.status (K.written sink.old) (K.written sink.new) }
 
-    // The code that is told beside a refusal is the one that was written.
+    // The code that is reported with a refusal is the code that was written.
     ensures code { TellsCode result.status result.code (K.written sink.old) (K.written sink.new) }
 
     // What is gone from the source.
@@ -114,7 +114,7 @@ pub fn run<
     ensures most_read { is_play (map string_bytes words.now) ≡ true →
         ConsumesBetween (S.left source.old) (S.left source.new) 0 (LONGEST_SCRIPT + PIECE) }
 
-    // When a status may come, also where the source, the sink and the replicas tell nothing.
+    // When a status may come, also if the source, the sink and the replicas report nothing.
     ensures usage_only_then { result.status ≡ Status.Usage → IsNoForm (map string_bytes words.now) }
     ensures audit_only_then { result.status ≡ Status.Audit → is_play (map string_bytes words.now) ≡ false }
     ensures read_cause { HasStatusCause Status.ReadFault result.status (S.faults source.old) (S.faults source.new) }
@@ -124,7 +124,7 @@ pub fn run<
     ensures replica_cause { result.status ≡ Status.ReplicaFault
         → RoseInRounds 100 (replica_counts R.faults replicas.old.items) (replica_counts R.faults replicas.new.items) }
 
-    // The replicas that come back: all, or where memory was wanting maybe none. On every status, no count of their faults falls.
+    // The replicas that come back: all, or, if memory was wanting, maybe none. On every status, no count of their faults falls.
     ensures untouched { IsNoForm (map string_bytes words.now) → replicas.new.items ≡ replicas.old.items }
     ensures unread_untouched { result.status ≡ Status.ReadFault → replicas.new.items ≡ replicas.old.items }
     ensures count { (result.status ≡ Status.NoMemory → ⊥) → length replicas.new.items ≡ 32 }

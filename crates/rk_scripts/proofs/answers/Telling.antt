@@ -1,5 +1,5 @@
--- What a client's session becomes at its turn and when it takes a message: it stays the client's, and it has one receipt more just
--- where the client says that its call was carried out.
+-- What a client's session becomes at its turn and when it takes a message: it stays the client's, and it has one receipt more
+-- exactly if the client says that its call was carried out.
 use Rattle.std.proofs.Common.{◌≡◌, ℕ, ◌+◌, ◌-◌, Bool, true, false, cond, eqb, List, [], ◌∷◌, ◌++◌, length, length-append, map, Option, None}
 use Rattle.std.proofs.Common.{Some, IfSome, slice_get, refl, sym, ap, subst, ◌∙◌, append-nil, arith, ◌==◌, eq-eqb, ne_eqb}
 use Rattle.rk_scripts.proofs.Words.{Call, Op, Said, Body, Message, accepting, asking, asking_by, fits_with, is_asked_here, taking}

@@ -1,4 +1,4 @@
--- Where no count of a replica rose no call has failed.
+-- If no count of a replica rose, no call has failed.
 use Rattle.std.proofs.Common.{◌≡◌, ◌<◌, ℕ, List, [], ◌∷◌, All, length, map, replicate, Option, IfSome, refl, ap, arith}
 use Rattle.rk_scripts.proofs.Words.{All-head, Fate, Kept, faultless, all_fates}
 use Rattle.rk_cluster.proofs.Faults.{is_of_it, times_both}

@@ -1,4 +1,4 @@
--- What a replica answers that tells what it stores may come in a run: a segment has no more bytes than one may have.
+-- What a replica that reports what it stores answers may come in a run: a segment has no more bytes than one may have.
 use Rattle.std.proofs.Common.{◌≡◌, ◌≤◌, ◌<◌, ◌++◌, ◌∙◌, ℕ, Bool, true, false, List, [], All, length, Option, None, Some, ◌==◌, refl}
 use Rattle.std.proofs.Common.{sym, ap, subst, arith, cond, length-append, eq-eqb}
 use Rattle.rk_scripts.proofs.Words.{option_map_or, and_from, get, SEGMENT_BYTES, Node, Segments, NumberedBytes, Log, bytes_of, known_of}

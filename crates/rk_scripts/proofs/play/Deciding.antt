@@ -1,4 +1,4 @@
--- Where no call of a replica fails the script alone decides a run: moves that are left once a command is over, or stops, change nothing.
+-- If no call of a replica fails, the script alone decides a run: moves that are left once a command is over, or stops, change nothing.
 use Rattle.std.proofs.Common.{◌≡◌, ℕ, zero, suc, ◌+◌, List, [], ◌∷◌, ◌++◌, replicate, Option, None, Some, refl, sym, ap, subst, ◌∙◌, arith}
 use Rattle.rk_scripts.proofs.Words.{none-some, NoMemory, Cluster, Fate, Kept, Code, advance, advance_code, priority_code, serve_code}
 use Rattle.rk_scripts.proofs.Words.{Course, course_of, error_of, moved, moved_all, moved_by, priority, serve, settle, Command, Numbered}

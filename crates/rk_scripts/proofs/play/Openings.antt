@@ -1,5 +1,5 @@
--- What is so of a run of a script, or of two with other fates of the calls of replicas: it is where it is so of what is played in a new cluster,
--- with as many masters and backups as there may be, and of a run that ends before any command.
+-- What is so of a run of a script, or of two with other fates of the calls of replicas: it is so if it is so of what is played in a new
+-- cluster, with as many masters and backups as there may be, and of a run that ends before any command.
 use Rattle.std.proofs.Common.{◌≡◌, ℕ, List, [], ◌∷◌, Option, Result, Ok, Err, if◌then◌else◌, refl, subst, arith, take, All}
 use Rattle.rk_scripts.proofs.Words.{All-head, All-tail, NoMemory, Fate, number_of, IsLawfulCommand, script_of, Command, Numbered}
 use Rattle.rk_scripts.proofs.Words.{ParseError, Played, Setting, cluster_by, first_commands, opened_by, played_from, played_in, played_of}

@@ -1,4 +1,4 @@
--- What the tests of commands say, where no code refuses one.
+-- What the tests of commands say, if no code refuses one.
 use Rattle.std.proofs.Common.{◌≡◌, ℕ, ◌≤◌, not, nat_le, Bool, true, false, Option, None, refl, subst, arith, leb-true}
 use Rattle.rk_scripts.proofs.Words.{option_or, and_parts, not-false, Cluster, IsMaster, code_where, is_master, Code}
 use Rattle.rk_cluster.specs.Looks.{master_count}

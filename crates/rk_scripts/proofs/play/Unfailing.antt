@@ -1,4 +1,4 @@
--- Where no call of a replica fails no command stops because replicas failed.
+-- If no call of a replica fails, no command stops because replicas failed.
 use Rattle.std.proofs.Common.{arith, ◌≡◌, ℕ, List, [], ◌∷◌, replicate, zero, suc, Option, Some, sym, subst}
 use Rattle.rk_scripts.proofs.Words.{ReplicaFault, Cluster, Occurrence, all_acted, Fate, Kept, Code, IsWell, moved_well, well_other, Course}
 use Rattle.rk_scripts.proofs.Words.{course_of, error_of, moved, moved_all, SettleError, Command, Numbered, Effect, Fails, Stop, carried}

@@ -1,4 +1,4 @@
--- `advance` ends where it is not refused.
+-- `advance` ends if it is not refused.
 use Rattle.std.proofs.Common.{◌≡◌, ◌<◌, ◌≤◌, ◌+◌, ◌||◌, ℕ, zero, suc, Bool, true, false, not, nat_le, List, [], ◌∷◌, length, map, Option}
 use Rattle.std.proofs.Common.{None, refl, sym, ap, subst, ◌∙◌, inl, arith, true≢false}
 use Rattle.rk_scripts.proofs.Words.{list_any, range_with_len, false≢true, none-some, LANES, row_of, Row, Cluster}

@@ -1,4 +1,4 @@
--- `advance` ends where it is not refused: in each lane where the migration is short of the reach its source and its target live, and it is
+-- `advance` ends if it is not refused: in each lane in which the migration is short of the reach its source and its target live, and it is
 -- brought from reach to reach.
 use Rattle.std.proofs.Common.{◌≡◌, ◌<◌, ◌+◌, ℕ, Bool, true, false, cond, List, [], ◌∷◌, ◌++◌, map, Option, None, Some, refl, sym, ap, subst}
 use Rattle.std.proofs.Common.{inl, inr, ⊎_elim, arith, ◌⊎◌}

@@ -1,4 +1,4 @@
--- Each client with a session was added in each lane after a command of a script too; and where the run does not stop at it, the clients of
+-- Each client with a session was added in each lane after a command of a script too; and if the run does not stop at it, the clients of
 -- each lane are those with sessions.
 use Rattle.std.proofs.Common.{arith, ◌≡◌, ◌++◌, ◌==◌, ℕ, List, [], ◌∷◌, map, All, Option, None, Some, refl, flat_map}
 use Rattle.rk_scripts.proofs.Words.{All-append, All-cons, All-nil, Call, number_at, Session, call_lane, Asks, Cluster, Joins}

@@ -1,4 +1,4 @@
--- Who has something left to do in a lane sends on its turn: where nothing is sent, each row is owned by a master that lives, and nothing is
+-- Who has something left to do in a lane sends on its turn: if nothing is sent, each row is owned by a master that lives, and nothing is
 -- staged at one.
 use Rattle.std.proofs.Common.{◌≡◌, ◌==◌, ◌<◌, ℕ, Bool, true, false, cond, not, List, [], ◌∷◌, All, filter, length, Option, None, Some, refl}
 use Rattle.std.proofs.Common.{sym, ap, subst, ◌∙◌, inl, inr, ⊎_elim, arith, ◌⊎◌, unwrap_or, option_map, nat_cmp, eq-eqb, Contains}

@@ -1,5 +1,5 @@
--- What the orders of the coordinator for a migration come to: its target makes ready and says so, its source closes, or tells what it hands
--- over, and its target takes it over.
+-- What the orders of the coordinator for a migration come to: its target makes ready and says so, its source closes, or reports what it
+-- hands over, and its target takes it over.
 use Rattle.std.proofs.Common.{◌≡◌, ◌≢◌, ◌<◌, ◌≤◌, ◌==◌, ◌&&◌, ℕ, Bool, true, false, cond, not, nat_lt, List, [], ◌∷◌, ◌++◌, length, map}
 use Rattle.std.proofs.Common.{All, Option, None, Some, refl, sym, ap, subst, ◌∙◌, append_assoc, inl, inr, ⊎_elim, arith, ◌⊎◌, Contains}
 use Rattle.std.proofs.Common.{IfSome, unwrap_or, flat_map, eq-eqb, eqb-true, le-ltb, lt-ltb, ne_eqb}

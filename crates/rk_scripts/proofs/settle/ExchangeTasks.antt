@@ -1,4 +1,4 @@
--- The tasks of exchanges, and of the commands that run them. Their type has no name here, so each is told by a list in which it stands.
+-- The tasks of exchanges, and of the commands that run them. Their type has no name here, so each is given by a list that contains it.
 use Rattle.std.proofs.Common.{◌≡◌, ℕ, Bool, true, [], ◌∷◌, ◌++◌, Some, map, refl, if◌then◌else◌}
 use Rattle.rk_scripts.proofs.Words.{Call, looks_up, Session, Cluster, lane_at, World, advance, advance_tasks, coordinator_exchange}
 use Rattle.rk_scripts.proofs.Words.{freeze_by, grant_task, log_round, reach_between, reaches_to, Begun, Frozen, Pulled, hand_by, sort_tasks}

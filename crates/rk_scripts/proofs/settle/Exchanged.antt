@@ -1,4 +1,4 @@
--- The exchanges of commands: each ends, and where its turn sends something fewer messages may be sent afterwards.
+-- The exchanges of commands: each ends, and if its turn sends something, fewer messages may be sent afterwards.
 use Rattle.std.proofs.Common.{◌≡◌, ◌<◌, ℕ, List, [], ◌∷◌, ◌++◌, None, refl, sym, subst, arith}
 use Rattle.rk_scripts.proofs.Words.{LANES, Node, Gave, Cluster, lane_at, worn, world_stepped, step, World, Course, ask_exchange, asks}
 use Rattle.rk_scripts.proofs.Words.{round_of, takes_turn, turn_exchange, Event}

@@ -1,4 +1,4 @@
--- A command ends where its course goes on until it is done. Commands do the same in each lane, one after the other.
+-- A command ends if its course goes on until it is done. Commands do the same in each lane, one after the other.
 use Rattle.std.proofs.Common.{◌≡◌, ◌<◌, ◌+◌, ℕ, zero, suc, List, [], ◌∷◌, map, Option, None, refl, ap, ◌∙◌, inl, ⊎_elim, arith}
 use Rattle.rk_scripts.proofs.Words.{range_with_len, LANES, Cluster, cluster_run, new_cluster, Code, SettlingCommand, Course, course_of}
 use Rattle.rk_scripts.proofs.Words.{AreTasks, lane_numbers, NamesMasters, AlwaysEnds, EndsUnlessRefused}

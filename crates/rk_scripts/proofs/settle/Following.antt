@@ -1,4 +1,4 @@
--- What follows on a cluster in the course of a command: no fewer messages were sent in each lane, and where each master that has crashed was
+-- What follows on a cluster in the course of a command: no fewer messages were sent in each lane, and if each master that has crashed was
 -- noticed in a lane, each one still is.
 use Rattle.std.proofs.Common.{◌≡◌, ◌≤◌, ℕ, false, List, [], ◌∷◌, All, length, refl, ◌∙◌, arith}
 use Rattle.rk_scripts.proofs.Words.{All-head, All-tail, LANES, accept, ask, Accepts, Asks, Calls, Cluster, Happens, Joins, Occurrence}

@@ -1,5 +1,5 @@
--- What a master has of a tablet, where it takes its turn, is told what backups hold, or pulls: its term stays, a target stays one, and one that
--- has all too.
+-- What a master has of a tablet when it takes its turn, gets reports of what backups hold, or pulls: its term stays, a target stays one,
+-- and a target that has all too.
 use Rattle.std.proofs.Common.{arith, ◌≡◌, ◌&&◌, ℕ, Bool, true, false, cond, not, List, [], ◌∷◌, length, fold, Option, None, Some, refl, sym}
 use Rattle.std.proofs.Common.{ap, subst, ◌∙◌, unwrap_or, option_map, nat_cmp}
 use Rattle.rk_scripts.proofs.Words.{below_all, cases_eq, false≢true, IsInOrder, NumberMap, changed_each, get, Call, Ended, Held, Entry}

@@ -1,5 +1,5 @@
--- What tablets of a master wait for has not come yet: where one closes something of it is staged, and where a target has all but its closing
--- entry not every side segment of it is stored. Here so it stays at the small changes of a master.
+-- What tablets of a master wait for has not come yet: if one closes, something of it is staged, and if a target has all but its closing
+-- entry, not every side segment of it is stored. Here so it stays at the small changes of a master.
 use Rattle.std.proofs.Common.{◌≡◌, ◌≤◌, ◌+◌, ◌==◌, ℕ, zero, suc, Bool, true, false, cond, List, [], ◌∷◌, ◌++◌, length, Option, None, Some}
 use Rattle.std.proofs.Common.{refl, sym, ◌∙◌, subst, arith, drop, get_or, unwrap_or, option_map}
 use Rattle.std.proofs.lemmas.List.Folds.{list_all_at, list_any-append}

@@ -1,5 +1,5 @@
--- Nothing that the tablets of a master wait for has come, still after a target took a batch that it pulled: where it has all by then, it waits for its
--- side segments, which no backup is known to hold.
+-- Nothing that the tablets of a master wait for has come, still after a target took a batch that it pulled: if it has all by then, it waits
+-- for its side segments, which no backup is known to hold.
 use Rattle.std.proofs.Common.{◌≡◌, ◌≤◌, ◌+◌, ◌%◌, ◌&&◌, ℕ, zero, suc, Bool, true, false, cond, nat_le, List, [], ◌∷◌, ◌++◌, length, fold}
 use Rattle.std.proofs.Common.{map, sum, All, Option, None, Some, refl, sym, ap, subst, arith, length-append, eq-eqb}
 use Rattle.rk_scripts.proofs.Words.{list_all, range_with_len, cond-true, All-append, All-cons, All-head, All-nil, All-tail, Held}

@@ -1,5 +1,5 @@
 -- What holds of each cluster to which a run of a new one has led: its masters are caught up, no row is owned by a master that was noticed
--- dead, and its sessions stand in order.
+-- dead, and its sessions are in order.
 use Rattle.std.proofs.Common.{arith, ◌<◌, ℕ, List, [], ◌∷◌, sym, subst, Err, Ok, Option, None, Some, Result}
 use Rattle.rk_scripts.proofs.Words.{in_order_insert, IsInOrder, LANES, Called, Visited, accept, ask, busy, new_session, session_calling}
 use Rattle.rk_scripts.proofs.Words.{Cluster, Occurrence, cluster_after, cluster_run, cluster_visited, lane_at, new_cluster, session_at}

@@ -1,4 +1,4 @@
--- Maps by number that have the same numbers, whatever stands under these.
+-- Maps by number that have the same numbers, whatever is under these.
 use Rattle.std.proofs.Common.{arith, ◌≡◌, ◌&&◌, ℕ, Bool, true, List, [], ◌∷◌, T, length, refl, sym, ap, subst, ◌∙◌, ⊎_elim, is_some, is_lt}
 use Rattle.std.proofs.Common.{nat_cmp}
 use Rattle.rk_scripts.proofs.Words.{list_any, eq_by_cmp, below_all, length-map, IsInOrder, NumberMap, get, insert, numbers}

@@ -1,4 +1,4 @@
--- Where a script, or a part of it, has been played each client with a session was added in each lane; so `settle` ends there.
+-- Once a script, or a part of it, has been played, each client with a session was added in each lane; so `settle` ends there.
 use Rattle.std.proofs.Common.{◌≡◌, ℕ, List, [], ◌∷◌, Option, refl, arith}
 use Rattle.rk_scripts.proofs.Words.{get_or-map-range_with_len, length-map-range_with_len, numbers, Cluster, new_cluster, new_world, Fate}
 use Rattle.rk_scripts.proofs.Words.{Code, SettlingCommand, Numbered, Effect, Stop, effect_within, Played, Setting, cluster_by, continued}

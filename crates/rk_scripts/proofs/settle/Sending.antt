@@ -1,4 +1,4 @@
--- Who sends on its turn in a migration: a target that pulls, and one that has all but is not done with its closing entry.
+-- Who sends on its turn in a migration: a target that pulls, and a target that has all but is not done with its closing entry.
 use Rattle.std.proofs.Common.{◌≡◌, ◌<◌, ◌≤◌, ◌+◌, ◌-◌, ◌==◌, ◌++◌, ℕ, Bool, true, false, cond, not, List, [], ◌∷◌, length, get_or, find}
 use Rattle.std.proofs.Common.{map, All, Option, None, Some, is_some, refl, sym, ap, subst, ◌∙◌, ⊎_elim, arith, length-append, option_map}
 use Rattle.std.proofs.Common.{nat_cmp}

@@ -1,4 +1,4 @@
--- A master that lives, where something is staged, sends on its turn. So it is where a call waits.
+-- A living master at which something is staged sends on its turn, and so does one at which a call waits.
 use Rattle.std.proofs.Common.{◌≡◌, ◌≢◌, ◌<◌, ◌≤◌, ◌==◌, ◌&&◌, ℕ, Bool, true, false, not, List, [], ◌∷◌, length, Option, None, Some, refl}
 use Rattle.std.proofs.Common.{sym, ap, subst, ◌∙◌, arith, drop, slice_get, option_map, length-drop}
 use Rattle.rk_scripts.proofs.Words.{list_any, option_or, false≢true, NumberMap, get, Call, LANES, Entry, Gave, lane_at, IsWellFormed}

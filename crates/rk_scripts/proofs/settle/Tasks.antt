@@ -1,4 +1,4 @@
--- The tasks of `settle`. Their type has no name outside of the crate of settling commands, so each is told by the list in which it stands.
+-- The tasks of `settle`. Their type has no name outside of the crate of settling commands, so each is given by the list that contains it.
 use Rattle.std.proofs.Common.{ℕ, List, [], slice_index_or, Some}
 use Rattle.rk_scripts.proofs.Words.{empty_by, lane_tasks, notice_by, settle, forgets, round_of}
 

@@ -1,4 +1,4 @@
--- What holds of a lane all through an exchange, where each message on its topic that is delivered keeps it.
+-- What holds of a lane all through an exchange, if each message on its topic that is delivered keeps it.
 use Rattle.std.proofs.Common.{◌≡◌, ◌<◌, ◌≤◌, ◌+◌, ◌-◌, ℕ, zero, suc, Bool, true, false, not, List, [], ◌∷◌, ◌++◌, All, filter, find, map}
 use Rattle.std.proofs.Common.{Option, None, Some, is_some, refl, sym, ap, subst, ◌∙◌, append_assoc, ⊎_elim, arith, Contains}
 use Rattle.rk_scripts.proofs.Words.{range_with_len, cases_lt, false≢true, All-head, All-tail, All-weaker, filter_passes, none-some, get}
@@ -54,8 +54,8 @@ module _ (topic : Topic) where
   abbrev pub HasNone : ℕ → World → Type 0
   HasNone from w = (n : ℕ) (message : Message) → from < n → get w.wire.messages n ≡ Some message → ⊥
 
-  -- what holds once all messages up to a number were handed out, and is kept where a message off the topic is forgotten, and where the oldest
-  -- one behind the number is delivered and forgotten
+  -- what holds once all messages up to a number were handed out, and is kept where a message off the topic is forgotten, and where the
+  -- oldest one behind the number is delivered and forgotten
   pub record IsTracked (masters lane : ℕ) (Holds : ℕ → World → Type 0) : Type 0 where
     pub forgets : (from n : ℕ) (w : World) → IsOffAt w n → Holds from w → Holds from (forgotten w n)
     pub takes :

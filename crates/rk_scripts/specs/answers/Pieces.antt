@@ -98,7 +98,7 @@ acting_in None script = acting_of (script_of script)
 -- ---- all pieces
 
 -- the text of a script played is that of some pieces, those of its commands one after the other, each at the cluster that the command came
--- to; and the replies in them are the receipts that clients have at the end, each client's in their order: all where the run is done or
+-- to; and the replies in them are the receipts that clients have at the end, each client's in their order: all if the run is done or
 -- refused, and else a first part
 pub record AreAnswers (left : List Numbered) (played : Played) : Type 0 where
   pub pieces : List Piece

@@ -12,7 +12,7 @@ said_along cluster [] = []
 said_along cluster (occurrence ∷ later) =
     (acted cluster occurrence).said ++ said_along (cluster_after cluster occurrence) later
 
--- the reply that tells a receipt
+-- the reply that reports a receipt
 abbrev pub told_by : Receipt → Said
 told_by receipt = says.Reply receipt.call.client receipt.call.seq receipt.outcome
 
@@ -25,6 +25,6 @@ is_reply_to client said = false
 abbrev pub replies_to : ℕ → List Said → List Said
 replies_to client said = filter (is_reply_to client) said
 
--- what a client's receipts tell
+-- what a client's receipts report
 abbrev pub told_to : Cluster → ℕ → List Said
 told_to cluster client = map told_by (session_at cluster client).receipts

@@ -41,7 +41,7 @@ OfEvents Holds cluster occurrence = ⊤
 abbrev pub HasSoundLanes : Cluster → Type 0
 HasSoundLanes cluster = (lane : ℕ) → lane < LANES → IsSound (lane_at cluster lane)
 
--- where an event makes a tablet that moves owned, what counts of the target has the records of what counted of the source, overlaid by the
+-- if an event makes a tablet that moves owned, what counts of the target has the records of what counted of the source, overlaid by the
 -- target's own writes
 abbrev pub FinishesMoves : World → Event → Called → Type 0
 FinishesMoves w event called =

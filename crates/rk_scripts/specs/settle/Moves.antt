@@ -1,4 +1,4 @@
--- The course of a command where an adversary picks the replicas that fail; when `settle` has ended, and when another command has.
+-- The course of a command when an adversary picks the replicas that fail; when `settle` has ended, and when another command has.
 use Rattle.std.specs.Prelude.{◌≡◌, ◌≤◌, ◌⊎◌, ℕ, zero, suc, true, List, [], Option, None, Some, is_some}
 use Rattle.rk_log.specs.declared.copied.TheConstants.{MOST_BACKUPS}
 use Rattle.rk_world.specs.Cluster.{Cluster, Occurrence, cluster_run, new_cluster}
@@ -13,7 +13,7 @@ use Rattle.rk_settle.specs.Settle.{settle}
 use Rattle.rk_settle.specs.declared.error.SettleError.TheVariants as errors
 use Rattle.rk_runs.specs.duties.Added.{AreAdded}
 
--- what becomes of the call of a replica at the next move, if the move makes one: a course tells all that has occurred
+-- what becomes of the call of a replica at the next move, if the move makes one: a course records all that has occurred
 abbrev pub Adversary : Type 0
 Adversary = Course → Fate
 
@@ -48,7 +48,7 @@ pub record StopsWorn (course : Course) : Type 0 where
   pub stops : Stops course
   pub no_fault : (rounds : ℕ) → error_of course ≡ Some (errors.Replica rounds) → ⊥
 
--- where no replica fails, after so many moves the cluster has settled, or a lane is worn
+-- if no replica fails, after so many moves the cluster has settled, or a lane is worn
 pub record Rests (course : Course) : Type 0 where
   pub moves : ℕ
   pub over : HasSettled (after_moves faultless moves course) ⊎ StopsWorn (after_moves faultless moves course)
@@ -67,8 +67,8 @@ abbrev pub FinishesIn : Adversary → (Cluster → Option Code) → SettlingComm
 FinishesIn adversary code command cluster =
     code cluster ≡ None → Finishes adversary (course_of cluster (command cluster))
 
--- a command ends where it is not refused by a code, whatever an adversary does. It begins in a cluster to which a run of a new one has led,
--- and where each client that has a session was added in each lane
+-- a command ends if it is not refused by a code, whatever an adversary does. It begins in a cluster to which a run of a new one has led,
+-- and in which each client that has a session was added in each lane
 abbrev pub EndsUnlessRefused : (Cluster → Option Code) → SettlingCommand → Type 0
 EndsUnlessRefused code command =
     (masters backups : ℕ) (before : List Occurrence) (adversary : Adversary)
@@ -76,6 +76,6 @@ EndsUnlessRefused code command =
     → let cluster = cluster_run (new_cluster masters backups) before in
     AreAdded cluster → FinishesIn adversary code command cluster
 
--- a command ends, also where it would be refused
+-- a command ends, also if it would be refused
 abbrev pub AlwaysEnds : SettlingCommand → Type 0
 AlwaysEnds command = EndsUnlessRefused (λ cluster. None) command

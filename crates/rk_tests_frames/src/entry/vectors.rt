@@ -7,9 +7,9 @@ use rk_tests::items::split_row;
 use std::process::Abort;
 use std::test::Fail;
 
-// What each row is was told once, apart from this code: entries of each kind with short values, drawn by chance, and such
-// entries cut at a place or with one byte spoilt. None is of a long value. Rows stand one after the other, each behind a
-// byte that tells its length.
+// What each row is was worked out once, apart from this code: entries of each kind with short values, drawn by chance,
+// and such entries cut at a place or with one byte spoilt. None is of a long value. Rows come one after the other, each
+// behind a byte that gives its length.
 
 #[test]
 fn reads_lawful_rows(rt: HostRuntime) -> Result<(), Fail> {
@@ -428,7 +428,7 @@ const CUT: &[u8] = b"\
     \x2b\x01\x00\x00\x00&\xff\xff\xff\xff\xff\xff\xff\xff\x00\x00\x00\x00\x00\x00\x00\xb4\x00\x00\x00\xf2\x00\x00\x00\
     \x00\x00\x00\x00h#a)`\x00\x00\x00\x02rM";
 
-// Each of the rest is spoilt, and is named by the first fault that stands in it.
+// Each of the rest is spoilt, and is named by the first fault in it.
 const WITH_BAD_KIND: &[u8] = b"\
     \x35\x06\x00\x00\x000\x00\x00\x00\x00\x00\x00\xff\xff\x00\x00\x00\x00\x00\x00\x00\x00\x00\x00\x00\x00\x00\x00\x00\
     \xaf\x00\x00\x00@\x00\x00\x00\x00\x00\x00\x00\x03\x80\x00\x00\xd2\xff\xff\xff\xff\x80\x02\x00\x00\

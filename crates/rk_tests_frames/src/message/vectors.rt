@@ -6,8 +6,8 @@ use rk_tests::items::split_row;
 use std::process::Abort;
 use std::test::Fail;
 
-// What each row is was told once, apart from this code: frames of each kind, drawn by chance, and such frames cut at a
-// place or with one byte spoilt. Rows stand one after the other, each behind a byte that tells its length.
+// What each row is was worked out once, apart from this code: frames of each kind, drawn by chance, and such frames
+// cut at a place or with one byte spoilt. Rows come one after the other, each behind a byte that gives its length.
 
 #[test]
 fn reads_lawful_rows(rt: HostRuntime) -> Result<(), Fail> {

@@ -1,4 +1,4 @@
--- The lanes are sound where replicas tell that nothing was written.
+-- The lanes are sound if replicas report that nothing was written.
 use Rattle.rk_cluster.specs.Fresh.{AreEmpty}
 use Rattle.rk_cluster.proofs.Faults.{lanes_same}
 use Rattle.rk_shared_lanes.specs.Together.{AllSoundOrSpent}

@@ -1,4 +1,4 @@
--- What was gathered is of the drive where no lane was spent and all calls are answered.
+-- What was gathered is of the drive if no lane was spent and all calls are answered.
 use Rattle.std.proofs.Common.{ℕ, List, refl, ap, subst, ◌∙◌}
 use Rattle.std.specs.List.{All}
 use Rattle.std.proofs.lemmas.List.Elements.{All-weaker}

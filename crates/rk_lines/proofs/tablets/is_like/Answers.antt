@@ -1,4 +1,4 @@
--- Numbers are equal where their digits are.
+-- Numbers are equal if their digits are.
 use Rattle.std.proofs.Common.{◌∙◌, arith}
 use Rattle.rk_lines.proofs.Digits.{same_digits, same_pairs}
 use Rattle.rk_lines.proofs.tablets.is_like.Goals as goal

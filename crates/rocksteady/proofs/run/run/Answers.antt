@@ -1,4 +1,4 @@
--- Where nothing fails a smooth script is done, or memory was wanting; and so a drive comes to its end.
+-- If nothing fails, a smooth script is done, or memory was wanting; and so a drive comes to its end.
 use Rattle.std.proofs.Common.{◌≡◌, sym, map, string_bytes}
 use Rattle.rk_types.specs.declared.status.Status.TheVariants.{WriteFault}
 use Rattle.rk_play.specs.Runs.{replica_counts}
