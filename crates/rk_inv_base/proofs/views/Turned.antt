@@ -10,7 +10,3 @@ module _ (v now : View) (master number : ℕ) (tablet : Tablet) (turned : IsTurn
   -- what holds of the tablet at its master, and of each other one as it was, holds of all
   pub of_tablet : (P : ℕ → ℕ → Tablet → Type 0) (q r : ℕ) → P master number tablet → ((q ≡ master → r ≡ number → ⊥) → P q r (tablet_seen v q r)) → P q r (tablet_seen now q r)
   of_tablet P q r here was = grind (arith, cases_eq)
-
-  -- and what was said of it as it was may give what is said of it now
-  pub by_turn : (P : ℕ → Tablet → Type 0) (q : ℕ) → (P master (tablet_seen v master number) → P master tablet) → P q (tablet_seen v q number) → P q (tablet_seen now q number)
-  by_turn P q gives was = grind (arith, cases_eq)
