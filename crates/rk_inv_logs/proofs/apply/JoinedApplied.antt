@@ -5,7 +5,7 @@ use Rattle.std.proofs.Common.{arith, drop, filter, length, take, slice_get, Cont
 use Rattle.rk_inv_base.proofs.Words.{cases_Bool, cond-false, All-nil, Contains-append_left, filter-append, get, meets, Held, Member, Range}
 use Rattle.rk_inv_base.proofs.Words.{Entry, Joined, filter_kept, lineage_of, Row, items_in, items_of, is_marked, unmarked_from, counting}
 use Rattle.rk_inv_base.proofs.Words.{counts, is_joined_in, joined_from, material_of, named, side_entries, own_place, Written}
-use Rattle.rk_inv_base.proofs.Words.{member_material, member_rest, member_truth, NamedFit, FirstIsDone, IsEntryOf, OnlyIsUnnamed, AreApart}
+use Rattle.rk_inv_base.proofs.Words.{member_material, member_rest, member_truth, NamedFit, FirstIsDone, OnlyIsUnnamed, AreApart}
 use Rattle.rk_inv_base.proofs.Words.{View, SoundView, last_of}
 use Rattle.rk_inv_logs.proofs.Words.{nil_from_length, formed_apart, Extends, still_contains, sides_extend, append_nil, unless_marked}
 use Rattle.rk_inv_logs.proofs.Words.{kept_stands, row_in, flat_from, named_from, named_of, unmarked_grow}
@@ -13,7 +13,7 @@ use Rattle.rk_inv_logs.specs.apply.Small.{MayApplyUnmarked, entry_applied, with_
 use Rattle.rk_inv_logs.proofs.apply.Members.{IsNextOf, IsStill, member_cases, stands_at, still, IsNamedItem, has_block, named_item}
 use Rattle.rk_inv_logs.proofs.apply.Members.{applied_named, held_of}
 use Rattle.rk_inv_logs.proofs.apply.Inserted.{dropped_next, unmarked_next}
-use Rattle.rk_inv_logs.proofs.apply.Passing.{Gains, Passing, gains_none, none_found, view_passed}
+use Rattle.rk_inv_logs.proofs.apply.Passing.{Gains, Passing, gains_none, uncalled, view_passed}
 use Rattle.rk_entry.specs.declared.entry.Entry.TheVariants as entries
 
 -- an item of entries stands among them
@@ -39,8 +39,7 @@ module _ (v : View) (master : ℕ) (joined : Joined) (sound : SoundView v) (may 
   after = with_one_applied v.written master
 
   none_waits : get (v.calls master) (v.written master).applied ≡ None
-  none_waits = none_found v master sound may.held.lives (λ call waits.
-      let same : waits.entry ≡ entry = cc (sym waits.stands ∙ may.stands) in subst (IsEntryOf call) same waits.own)
+  none_waits = uncalled v master entry sound may (λ call own. own)
 
   -- ---- members
 

@@ -113,6 +113,11 @@ none_found v master sound lives none = go (get (v.calls master) (v.written maste
     go None is = refl
     go (Some call) is = absurd (none call (sound.rest.waiting master lives (v.written master).applied call is))
 
+-- so none does at the next entry of a log, if that is of no call
+pub uncalled : (v : View) (master : ℕ) (entry : Entry) → SoundView v → MayApplyUnmarked v master entry → ((call : Call) → IsEntryOf call entry → ⊥) → get (v.calls master) (v.written master).applied ≡ None
+uncalled v master entry sound may none = none_found v master sound may.held.lives (λ call waits.
+    let same : waits.entry ≡ entry = cc (sym waits.stands ∙ may.stands) in none call (subst (IsEntryOf call) same waits.own))
+
 -- an entry with which no call ends may be applied, in a sound view, and tells nothing new of any row
 pub record Passing (v : View) : Type 0 where
   pub master : ℕ
@@ -327,8 +332,7 @@ module _ (v : View) (master : ℕ) (carried : Carried) (sound : SoundView v) (ma
 
   -- no call waits for it
   none_waits_carried : get (v.calls master) (v.written master).applied ≡ None
-  none_waits_carried = none_found v master sound may.held.lives (λ call waits.
-      let same : waits.entry ≡ entry = cc (sym waits.stands ∙ may.stands) in subst (IsEntryOf call) same waits.own)
+  none_waits_carried = uncalled v master entry sound may (λ call own. own)
 
   -- a member has what it had, or takes the entry
   either : (range : Range) (member : Member) → IsStill v.written (with_one_applied v.written master) range member ⊎ Takes (entries.Carried carried) v.written (with_one_applied v.written master) range member
