@@ -11,7 +11,7 @@ use Rattle.rk_inv_events.proofs.Words.{All_pairs, each_from_pairs, ends_from_pai
 use Rattle.rk_inv_events.proofs.Words.{by_found}
 use Rattle.rk_inv_events.proofs.events.PostsOf.{has_post, serves_in}
 
--- ---- completions that tell the end of a call have that end, and no other one of its client
+-- ---- completions that record the end of a call have that end, and no other one of its client
 
 -- the last completion of a client is that of a seq, with this end
 pub record IsLastOf (last : Completion) (seq : ℕ) (end : End) : Type 0 where
@@ -61,7 +61,7 @@ pub record HasRecord (journal : List Placed) (call : Call) (end : End) : Type 0 
 module _ (v : View) (sound : SoundView v) (row : Row) (master : ℕ) (call : Call) (end : End) (has : Contains v.rows row) (lives : v.live master ≡ true) (serves : is_serving (v.handovers master row.tablet).role ≡ true)
     (looked : look (v.completions master row.tablet) call.client call.seq ≡ looks.Same end) (order : IsInOrder (v.completions master row.tablet)) (mutation : is_mutation call.op ≡ true)
     (inside : has_key row.range call.table call.key ≡ true) (was_asked : WasAsked (v.asked call.client) v.journal call) where
-  -- the call's own record tells that end
+  -- the call's own record has that end
   outcome_is : (placed : Placed) → Contains v.journal placed → placed.call ≡ call → placed.outcome ≡ outcome_of end
   outcome_is placed stands is =
       let reach : ReachAll row.range v.journal (ends_of (v.completions master row.tablet)) =

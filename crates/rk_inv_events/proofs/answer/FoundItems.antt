@@ -34,7 +34,7 @@ has_arrived tablet table key known items x stands of receives =
 
 -- ---- what records leave
 
--- what a search finds stands there
+-- what a search finds is there
 found_stands : (table : ℕ) (key : List ℕ) (records : List Held) (x : Held) → found table key records ≡ Some x → Contains records x
 found_stands table key records x = all_find (Contains records) (is_at table key) records x (All-contains_itself records)
 
@@ -111,7 +111,7 @@ module _ (range : Range) (source scan own mine sides records : List Held) (Arriv
               (Contains-append_cases source mine other at);
         })
 
-    -- where none is found of a key of which all has arrived, none is left but a tombstone
+    -- if none is found of a key of which all has arrived, none is left but a tombstone
     module _ (none : found table key records ≡ None) (arrives : (x : Held) → Contains scan x → is_of table key x ≡ true → Arrived x) where
       never : (x : Held) → HasCome Arrived scan own x → is_of table key x ≡ true → ⊥
       never x come of = absurd (cc (one_found x (received.found x come) of None none).1)

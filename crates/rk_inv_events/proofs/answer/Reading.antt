@@ -23,9 +23,9 @@ use Rattle.rk_inv_events.proofs.request.Choices.{IsFresh, IsRead, fresh, reads}
 use Rattle.rk_inv_events.proofs.request.Served.{IsServedAt, served_at}
 use Rattle.rk_inv_events.proofs.stored.StoredTaken.{may_tell_at, reply_to}
 
--- ---- what a read tells
+-- ---- what a read returns
 
--- what a read tells of an entry of the map is what it tells of the record that this leaves
+-- what a read returns for an entry of the map is what it returns for the record that this leaves
 reads_entry : (entry : MapEntry) → read_of (entry_record entry) ≡ machine_read entry
 reads_entry never = refl
 reads_entry (live_entry version value) = refl
@@ -33,7 +33,7 @@ reads_entry (gone version) = refl
 
 -- ---- its record and its reply
 
--- a master may tell the outcome of a read that has got the last record
+-- a master may report the outcome of a read that has got the last record
 module _ (v : View) (old : List Placed) (master seen : ℕ) (call : Call) (outcome : Outcome) (is_get : is_mutation call.op ≡ false) (journal_is : v.journal ≡ old ++ next_record old call outcome seen ∷ []) where
   abbrev served : List Served
   served = (record { call = call; outcome = outcome }) ∷ []

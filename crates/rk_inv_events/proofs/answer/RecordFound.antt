@@ -19,7 +19,7 @@ module _ (v : View) (sound : SoundView v) (row : Row) (master : ℕ) (has : Cont
   abbrev w : Written
   w = v.written master
 
-  -- where nothing is found of the key, all of it has arrived that the source of a target had
+  -- if nothing is found of the key, all of it has arrived that the source of a target had
   abbrev pub Knows : Type 0
   Knows = found table key (v.records master) ≡ None → (items : List Held) (x : Held) → Contains items x → is_of table key x ≡ true
       → HasArrived (v.handovers master row.tablet).role (v.pullings master row.tablet) items x
@@ -78,7 +78,7 @@ module _ (v : View) (sound : SoundView v) (row : Row) (master : ℕ) (has : Cont
     items_are : items_of (truths v row) ≡ items_of first_truth ++ items_of mine
     items_are = ap items_of truth_is ∙ flat_map-append items_in first_truth mine
 
-    -- an unmarked entry that is applied stands among all
+    -- an unmarked entry that is applied is among all
     among_all : (e : Entry) → Contains bare e → Contains (unmarked_from w.marks granted.last.from w.entries) e
     among_all e stands =
         let at = unmarked_at w.marks from (drop from (applied_entries w)) e stands in

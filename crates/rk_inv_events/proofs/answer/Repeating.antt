@@ -18,7 +18,7 @@ use Rattle.rk_inv_events.proofs.request.Choices.{IsRepeated, repeats}
 use Rattle.rk_inv_events.proofs.request.Served.{served_at}
 use Rattle.rk_inv_events.proofs.stored.StoredTaken.{may_tell_at}
 
--- ---- the place of the first thing in a list that passes a test, where one does
+-- ---- the place of the first thing in a list that passes a test, if one does
 
 record IsFirst {X : Type 0} (p : X → Bool) (xs : List X) : Type 0 where
   place : ℕ
@@ -43,7 +43,7 @@ first_one {X} p xs x at passes =
 
 -- ---- the outcome
 
--- a master may tell the outcome of a mutation of which the journal has the record
+-- a master may report the outcome of a mutation of which the journal has the record
 module _ (v : View) (sound : SoundView v) (master : ℕ) (call : Call) (end : End) (has : HasRecord v.journal call end) where
   first : IsFirst (is_of_mutation call.client call.seq) v.journal
   first = search (first_one, is_of_mutation, and_from, is_mutation, eq-eqb)

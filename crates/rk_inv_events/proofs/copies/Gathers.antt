@@ -103,7 +103,7 @@ module _ (w : World) (number backup master : ℕ) (copy : CopySegment) (sound : 
   gathers_now =
       ap (λ (t : Tablet). is_gathering t.handover.role) here ∙ gathers.0
 
-  -- what the master makes of the copy, where that is the last one
+  -- what the master makes of the copy, if that is the last one
   pub last_is : next_after (master_at w master) copy ≡ None
       → copy_taken (master_at w master) copy ≡ merging now tablet (tablet_at now tablet) (merges tablet now) (Some (merged_as tablet now))
   last_is is =
@@ -125,7 +125,7 @@ module _ (w : World) (number backup master : ℕ) (copy : CopySegment) (sound : 
   pub sound_gathering : IsSound (worked_at w master 0 (changed now)).world
   sound_gathering = sound_changed w master 0 now sound_with_copy
 
-  -- where something is left to read, it does no more
+  -- if something is left to read, it does no more
   pub sound_read_on : (reading : Reading) → next_after (master_at w master) copy ≡ Some reading
       → IsSound (to_master w master (copy_message backup master copy)).world
   sound_read_on reading is = reached w master 0 (copy_taken (master_at w master) copy) lives

@@ -16,7 +16,7 @@ use Rattle.rk_inv_events.proofs.events.Sending.{all_of_each, may_send, sound_all
 
 -- ---- the first segment that is not known to be held whole
 
--- it stands at a place of numbered segments, and each one before it is known to be held whole
+-- it is at a place of numbered segments, and each one before it is known to be held whole
 record IsFirst (known : Known) (first : ℕ) (segments : List (List ℕ)) (segment : NumberedBytes) : Type 0 where
   place : ℕ
   within : place < length segments

@@ -47,7 +47,7 @@ asked_is call seen (Some last) is =
     (λ i. Some (record { call = same_call last.call call parts.0 i; seen = eqb-true last.seen seen parts.1 i }))
 
 module _ (w : World) (session : Session) (call : Call) (sound : IsSound w) (own : call.client ≡ session.client) (after : IsAfterStart w.base call) where
-  -- a client's earlier call, where the lane takes the next one, has its accepted record
+  -- a client's earlier call, if the lane takes the next one, has its accepted record
   accepted_before : (old : LastCall) → asked_by w.ledger session.client ≡ Some old → is_accepted w.ledger.journal session.client old.call.seq ≡ true → IsAccepted w.ledger.journal old.call
   accepted_before old is found =
       let it = found_accepted w.ledger.journal session.client old.call.seq found in
@@ -100,7 +100,7 @@ module _ (w : World) (session : Session) (call : Call) (own : call.client ≡ se
   looked_up : IsSound (turned_by (looking_up session call).message)
   looked_up = sound_sent w (looking_up session call).message sound (may_look_up (view w) session.client _)
 
-  -- a request of the call is of one that was asked
+  -- a request of the call is of a call that was asked
   of_call : call ≡ record call { client = session.client }
   of_call i = record call { client = own i }
 
@@ -146,7 +146,7 @@ module _ (w : World) (session : Session) (sound : IsSound w) (may : MayAct w.coo
 
 -- ---- a client takes an answer
 
--- a client takes its answer, where that says that the call was carried out and this lane asked for it
+-- a client takes its answer, if that says that the call was carried out and this lane asked for it
 module _ (w : World) (number : ℕ) (session : Session) (call : Call) (sound : IsSound w) (asked : is_asked w.ledger session call ≡ true) (own : call.client ≡ session.client) where
   pub is_last_there : HasAsked w session call
   is_last_there = grind (arith, asked_is, asked_by, and_parts, is_last, is_accepted)

@@ -90,7 +90,7 @@ module _ (v : View) (row : Row) (sound : SoundView v) (stands : Contains v.rows 
           },
         )) (tt, tt, tt)
 
--- ---- where a row is owned
+-- ---- a row that is owned
 
 module _ (v : View) (row : Row) (sound : SoundView v) (stands : Contains v.rows row) (master from : ℕ) (is : row.phase ≡ Owned master from) where
   post : post_of row.phase master ≡ Owner from
@@ -133,7 +133,7 @@ module _ (v : View) (row : Row) (sound : SoundView v) (stands : Contains v.rows 
         },
       )) (tt, tt, tt)
 
--- ---- a Grant, where a row moves
+-- ---- a Grant, for a row that moves
 
 -- who waits for a grant at a term waits
 waits : (second : Option Handover) (term : ℕ) → is_waiting_at second term ≡ true → is_waiting second ≡ true
@@ -158,7 +158,7 @@ module _ (v : View) (row : Row) (sound : SoundView v) (stands : Contains v.rows 
   noted : get v.handed row.tablet ≡ Some handed
   noted = grind (arith, lineage_of, own, at_term)
 
-  -- what the Grant hands over to the row, where its target waits for it
+  -- what the Grant hands over to the row, if its target waits for it
   hands_over : (other : Row) → Contains v.rows other → IfSome (handed_by other v.handovers (bodies.Grant granting)) (Hands v other)
   hands_over other at =
       grind (arith, eqb-true)

@@ -87,7 +87,7 @@ module _ (v : View) (sound : SoundView v) (master number : ℕ) (lives : v.live 
             ∙ ap (λ (m : ℕ). (v.pullings m row.tablet).source) (sym own) ∙ (fit granted).from_source)
         by_lineage _ fit = tt
 
-    -- and the row moves, where it keeps its term
+    -- and the row moves, if it keeps its term
     moves : (row : Row) → Contains v.rows row → AfterMove row tenure
     moves row stands its = receiving_moves master row.term handover.term (v.written master).applied its.term row.phase
         (fits_as roles.Receiving is row stands its.tablet)

@@ -19,7 +19,7 @@ has_row rows tablet = by_found (λ found. is_some found ≡ true → HasRow rows
 
 -- ---- one row beside others
 
--- a row that stands among others is found by its number
+-- a row that is among others is found by its number
 pub row_found : (rows : List Row) (row : Row) → Contains rows row → is_some (row_of rows row.tablet) ≡ true
 row_found [] row (k, within, is) = absurd (omega (arith, within))
 row_found (first ∷ rows) row stands =

@@ -34,7 +34,7 @@ module _ (v : View) (from to : Node) (body : Body) where
     request_says = says.2;
   }
 
-  -- one that hands nothing over
+  -- a message that hands nothing over
   pub may_send : ((row : Row) → handed_by row v.handovers body ≡ None)
       → IfSome (tenure_in body) (λ tenure. is_some (row_of v.rows tenure.tablet) ≡ true) × IfSome (range_in body) (IsWithinRows v.rows)
       → ((row : Row) → Contains v.rows row → SentFits row body × SaysIn v row from to body)
@@ -42,7 +42,7 @@ module _ (v : View) (from to : Node) (body : Body) where
       → MaySend v (record { from = from; to = to; body = body })
   may_send none = may_hand (λ row at. rw (none row) tt)
 
--- a message may be sent, whatever is filled in where it is a reply
+-- a message may be sent, whatever is filled in if it is a reply
 abbrev pub MaySendFilled : View → Message → Type 0
 MaySendFilled v message = (journal : List Placed) (served : List Served) → MaySend v (filled journal served message)
 
@@ -65,7 +65,7 @@ pub may_request : (v : View) (client : ℕ) (to : Node) (request : Request) → 
 may_request v client to request fits = may_send v (nodes.Client client) to (bodies.Request request) (λ row. refl) (tt, tt)
     (λ row stands. (record { within = tt; below = tt }, tt)) (tt, tt, fits)
 
--- so may one that was saved to be sent again
+-- so may a message that was saved to be sent again
 pub may_send_again : (v : View) (client : ℕ) (from to : Node) (body : Body) → IsRequest v.asked v.journal client from body
     → MaySend v (record { from = from; to = to; body = body })
 may_send_again v client (nodes.Client sender) to (bodies.Request request) (own, fits) = may_request v sender to request (rw own fits)
@@ -98,7 +98,7 @@ pub all_of_each : {X Y : Type 0} (P : Y → Type 0) (make : X → List Y) (thing
     → All P (flat_map make things)
 all_of_each P make things each = all_flat P make things (all_by (λ x. All P (make x)) things each)
 
--- the coordinator answers a look-up of a client where a row has the hash, and takes nothing else that clients send
+-- the coordinator answers a look-up of a client if a row has the hash, and takes nothing else that clients send
 pub sound_question : (w : World) (client : ℕ) (body : Body) → IsSound w
     → IsSound (to_coordinator w (record { from = nodes.Client client; to = nodes.Coordinator; body = body })).world
 sound_question w client (bodies.Lookup lookup) sound =

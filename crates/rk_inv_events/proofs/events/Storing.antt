@@ -42,7 +42,7 @@ continues whole stored before bytes behind more count one two reach within =
         ∙ take-append-add before (bytes ++ behind) count
         ∙ ap (λ (rest : List ℕ). before ++ rest) (take-append-le count bytes behind within)
 
--- a backup that stores a first part of a segment, and takes bytes that stand there, stores a first part then
+-- a backup that stores a first part of a segment, and takes bytes of it at their place, stores a first part then
 pub added_front : (whole stored before bytes behind : List ℕ) → IsFirstPart stored whole → whole ≡ before ++ (bytes ++ behind)
     → IsFirstPart (stored ++ added (length before) bytes stored) whole
 added_front whole stored before bytes behind front there = go (is_accepted (length before) bytes stored) refl
@@ -66,7 +66,7 @@ added_front whole stored before bytes behind front there = go (is_accepted (leng
             (sym (continues whole stored before bytes behind front.more past front.parts there (omega (arith, begins)) within))
             (record { more = behind; parts = there ∙ sym (append_assoc before bytes behind) })
 
--- so it does where a first part of these alone was added
+-- so it does if a first part of these alone was added
 pub part_front : (whole stored more : List ℕ) (count : ℕ) → IsFirstPart (stored ++ more) whole → IsFirstPart (stored ++ take count more) whole
 part_front whole stored more count front = first_part_more (stored ++ take count more) (stored ++ more) whole
     (record {
@@ -86,7 +86,7 @@ known_by : (w : World) (backup master : ℕ) → IsSound w → is_backup w backu
     → IsBackup (log_in w master) backup
 known_by w backup master sound there sender = grind (arith, and_parts, nat_le, leb-true)
 
--- one that stores what it stored changes nothing that is seen
+-- a backup that stores what it stored changes nothing that is seen
 view_same : (w : World) (backup : ℕ) (segments : Segments) → get w.backups backup ≡ Some segments → view (with_stored_by w backup (λ it. it) (Some segments)) ≡ view w
 view_same w backup segments tells i = record (view w) { stored = λ q. same q i }
   where
@@ -98,12 +98,12 @@ view_same w backup segments tells i = record (view w) { stored = λ q. same q i 
 
 -- ---- it takes an Append
 
--- a master may be told what a backup stores
+-- what a backup stores may be reported to a master
 may_tell_stored : (v : View) (backup master segment count : ℕ) → count ≤ length (stored_of v.stored master backup segment)
     → MaySend v (record { from = nodes.Backup backup; to = nodes.Master master; body = bodies.Stored (record { segment = segment; length = count }) })
 may_tell_stored v backup master segment count within = grind (arith, may_send)
 
--- a backup that tells what it stores takes an Append of a master that is there, which carries bytes of that master's log
+-- a backup that reports what it stores takes an Append of a master that is there, which carries bytes of that master's log
 module _ (w : World) (backup master : ℕ) (append : Append) (segments : Segments) (sound : IsSound w) (there : is_backup w backup ≡ true) (sender : IsMaster w.coordinator.masters master) (tells : get w.backups backup ≡ Some segments) (says : IsFromLog (log_in w master) (known_of (log_in w master) backup) append) where
   abbrev stored : List ℕ
   stored = bytes_of (segments master append.segment)
@@ -140,7 +140,7 @@ module _ (w : World) (backup master : ℕ) (append : Append) (segments : Segment
   stores_now : (more : List ℕ) → stored_of (view (world_of more)).stored master backup append.segment ≡ stored ++ more
   stores_now more = grind (arith, no_segments, get_same, and_from, eq-eqb, part_taken)
 
-  -- where all of them are stored, it tells no more than it stores then
+  -- if all of them are stored, it reports no more than it stores then
   stored_all : (count : ℕ) → count ≤ length (stored ++ new)
       → IsSound (backed_at (world_of new) (append_step backup master append (Appended count))).world
   stored_all count within = sound_sent (world_of new) _ (sound_more new front (λ some. some))
@@ -219,7 +219,7 @@ module _ (v : View) (sound : SoundView v) (read : ReadSegment) (there : IsMaster
             subst (λ (segment : ℕ). end.offset ≤ length (stored_of v.stored read.master READ_BACKUP segment)) at reaches.there;
       }
 
--- a backup that tells what it stores takes a Read that stands on the wire, of a master that is there
+-- a backup that reports what it stores takes a Read that is on the wire, of a master that is there
 module _ (w : World) (number backup reader : ℕ) (read : ReadSegment) (segments : Segments) (sound : IsSound w) (there : is_backup w backup ≡ true) (of : IsMaster w.coordinator.masters read.master) (tells : get w.backups backup ≡ Some segments) (found : get w.wire.messages number ≡ Some (record { from = nodes.Master reader; to = nodes.Backup backup; body = bodies.Read read })) where
   abbrev asking : Message
   asking = record { from = nodes.Master reader; to = nodes.Backup backup; body = bodies.Read read }
@@ -307,7 +307,7 @@ module _ (w : World) (number backup : ℕ) (sound : IsSound w) (formed : IsWellF
   by_sender (nodes.Master master) body fault sent = of_master master body fault sent
   by_sender from body fault sent = does_nothing (called_by segments from body fault)
 
--- a message to no backup of the lane is lost, and each backup tells what it stores
+-- a message to no backup of the lane is lost, and each backup reports what it stores
 pub sound_to_backup : (w : World) (number backup : ℕ) → IsSound w → IsWellFormed w → AllTell w → (from : Node) (body : Body) (fault : Option ℕ)
     → get w.wire.messages number ≡ Some (to_store from backup body)
     → IsSound (to_backup w backup from body (called_by (backup_at w backup) from body fault)).world

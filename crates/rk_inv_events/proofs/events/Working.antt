@@ -10,7 +10,7 @@ use Rattle.rk_inv_events.specs.orders.Orders.{order_to}
 
 -- ---- a master that is put
 
--- a master may be put where it stands
+-- a master may be put where it is
 pub view_unchanged : (w : World) (master : ℕ) → view (with_master w master (master_at w master)) ≡ view w
 view_unchanged w master = view_master w master (master_at w master) 0 (tablet_in w master 0) refl refl (λ r apart. refl)
     ∙ (λ i. record (view w) {
@@ -51,7 +51,7 @@ pub reached : (w : World) (master seen : ℕ) (worked : Worked) → has_crashed 
     → IsSound (cond (has_crashed w master) (losing w) (worked_at w master seen worked)).world
 reached w master seen worked lives sound = rw lives sound
 
--- one that has crashed loses it
+-- a master that has crashed loses what reaches it
 pub reached_or_lost : (w : World) (master seen : ℕ) (worked : Worked) → IsSound w
     → (has_crashed w master ≡ false → IsSound (worked_at w master seen worked).world)
     → IsSound (cond (has_crashed w master) (losing w) (worked_at w master seen worked)).world
@@ -66,7 +66,7 @@ taken w master body = reached w master (seen_in body) (order (master_at w master
 
 -- ---- the master works
 
--- where no piece is marked the ledger keeps its marks
+-- if no piece is marked, the ledger keeps its marks
 pub marks_same : (ledger : Ledger) → with_marks ledger [] ≡ ledger
 marks_same ledger = ap (λ (marks : List Mark). record ledger { marks = marks }) (append-nil ledger.marks)
 

@@ -15,7 +15,7 @@ use Rattle.rk_inv_events.proofs.events.Working.{moved_itself, put_again}
 abbrev pub HasFewSegments : ℕ → World → Type 0
 HasFewSegments master w = length (cut (log_in w master).entries) < FIRST_SIDE_SEGMENT
 
--- where that is so, the lane is sound
+-- if that is so, the lane is sound
 abbrev pub IsSoundWhere : ℕ → World → Type 0
 IsSoundWhere master w = HasFewSegments master w → IsSound w
 
@@ -67,7 +67,7 @@ module _ (w : World) (master tablet : ℕ) (now : Master) where
   gathering_goes_on P comes is_so reading stays merges_then =
       grind (arith, worked_at, merging, tablet_at, carried_is, with_all, as_entries, world_is)
 
--- the log has room for what is merged where it has few segments then
+-- the log has room for what is merged if it has few segments then
 pub merge_room : (w : World) (master tablet : ℕ) → IsSound w → HasFewSegments master (rebuild_merged_in w master tablet)
     → length (cut (((view w).logs master).entries ++ piece_entries ((view w).handovers master tablet) (merge_in (view w) master tablet)))
     < FIRST_SIDE_SEGMENT

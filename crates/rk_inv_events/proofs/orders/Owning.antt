@@ -28,8 +28,8 @@ use Rattle.rk_inv_events.proofs.pulls.Sources.{frozen_is}
 use Rattle.rk_inv_events.proofs.stored.StoredTaken.{freezes_as}
 use Rattle.rk_inv_events.specs.orders.Orders.{IsOrdered, order_to}
 
--- ---- What the test tells by which a master takes an order for a tablet anew: the order's term is above that of each tablet that the
--- master has whose range meets this one.
+-- ---- What follows from the test by which a master takes an order for a tablet anew: the order's term is above that of each tablet that
+-- the master has whose range meets this one.
 
 -- an order is above what a master keeps
 pub record IsAboveAll (w : World) (master number term : ℕ) (range : Range) : Type 0 where
@@ -58,7 +58,7 @@ module _ (w : World) (master number term : ℕ) (range : Range) where
           (λ e its met. ltb-true e.1.handover.term term (rw met at its))
           (master_at w master).tablets (all_pass (is_above range term) (master_at w master).tablets parts.1))) meeting
 
--- ---- What a living master may report where it takes an order: the place at which it waits for a tablet, and what the next owner of a
+-- ---- What a living master may report when it takes an order: the place at which it waits for a tablet, and what the next owner of a
 -- frozen tablet has to know.
 
 -- ---- by the table of posts
@@ -122,7 +122,7 @@ module _ (v : View) (sound : SoundView v) (master number : ℕ) (lives : v.live 
             (ends_of (v.completions master number)) end (sound.calls.known master number lives) there));
       }
 
-    -- what is handed over for a row, only where that opens at the term
+    -- what is handed over for a row, only if that opens at the term
     hands_over : (row : Row) → Contains v.rows row → IfSome (handed_by row v.handovers (bodies.Transfer told)) (Hands v row)
     hands_over row stands = cond_both (is_opening row.phase && (number == row.tablet) && (handover.term == row.term))
         (Some (record { floor = told.floor; ends = told.ends })) None (λ found. IfSome found (Hands v row))
@@ -153,10 +153,10 @@ module _ (v : View) (sound : SoundView v) (master number : ℕ) (lives : v.live 
           λ its. says_in row its row.phase (asked row stands its),
         )) (tt, tt, tt)
 
--- ---- A sound lane stays sound when a living master takes an Own: it serves its tablet where its closing entry is applied, and else stays
+-- ---- A sound lane stays sound when a living master takes an Own: it serves its tablet if its closing entry is applied, and else stays
 -- as it is. So it does at a Release: a frozen tablet is given up at its term, and else the master stays as it is. And at a Close: its
--- tablet closes where the order's term is greater, freezes where nothing of it is staged, and where it is frozen at that term the master
--- tells what the next owner has to know.
+-- tablet closes if the order's term is greater, freezes if nothing of it is staged, and if it is frozen at that term, the master
+-- reports what the next owner has to know.
 
 -- what a handover is that a master may own, and what it becomes
 record BecomesOwned (old : Handover) (term applied : ℕ) (new : Handover) : Type 0 where
@@ -185,7 +185,7 @@ transfer_from sender number term tablet = record {
   body = bodies.Transfer (record { tenure = record { tablet = number; term = term }; floor = tablet.handover.counter; ends = ends_of tablet.completions });
 }
 
--- a tablet that closes freezes, where nothing of it is staged
+-- a tablet that closes freezes if nothing of it is staged
 sound_freezing : (w : World) (master number : ℕ) (now : Master) → IsSound (with_master w master now) → has_crashed w master ≡ false
     → (tablet_at now number).handover.role ≡ roles.Closing
     → IsSound (with_master w master
@@ -208,7 +208,7 @@ module _ (w : World) (number master : ℕ) (tenure : Tenure) (sound : IsSound w)
   -- ---- an Own
 
   module _ (ordered : IsOrdered w number master (bodies.Own tenure)) where
-    -- what becomes of the lane, where this is the tablet
+    -- what becomes of the lane, if this is the tablet
     abbrev Owns : ℕ → Type 0
     Owns tablet = IsSound (worked_at w master 0 (own_taken own (record { tablet = tablet; term = tenure.term }))).world
 
@@ -267,7 +267,7 @@ module _ (w : World) (number master : ℕ) (tenure : Tenure) (sound : IsSound w)
     says : (row : Row) → Contains v.rows row → CloseFits row (v.handovers master row.tablet) (v.live master) master tenure
     says row stands = row_said v sound row stands number message ordered
 
-    -- ---- what it tells, once it is so
+    -- ---- what it reports, once it is so
 
     module _ (now : Master) (sound_now : IsSound (with_master w master now)) where
       abbrev u : View

@@ -35,7 +35,7 @@ pub record KeepsTablets (old new : Master) : Type 0 where
 keeps_then : (a b c : Master) → KeepsTablets a b → KeepsTablets b c → KeepsTablets a c
 keeps_then a b c first later = grind arith
 
--- so is one where a tablet pulls so, with the sealed segments that it had
+-- so is a master at which a tablet pulls so, with the sealed segments that it had
 keeps_with : (m : Master) (number : ℕ) (pulling : Pulling) → pulling.sealed ≡ (tablet_at m number).pulling.sealed
     → KeepsTablets m (with_tablet m number (with_pulling (tablet_at m number) pulling))
 keeps_with m number pulling same = grind (arith, cases_eq, tablet_here, tablet_apart, with_pulling, tablet_at)

@@ -107,7 +107,7 @@ module _ (w : World) (sound : IsSound w) (master number : ℕ) (may : MaySealThe
       (ap (λ (v : View). v.logs master) (ap view (sym waiting_is) ∙ sealed_is w master number)
       ∙ put_here (view w).logs master (with_sides (log_in w master) (sealed_sides kept.pulling.sides)) master refl) room
 
-  -- and where nothing was to be sealed, its closing entry is appended
+  -- and if nothing was to be sealed, its closing entry is appended
   abbrev closes : Master → Master
   closes m = closing_appended m number (tablet_at m number) (as_closed (length m.log.entries) (tablet_at m number).handover)
 

@@ -41,7 +41,7 @@ module _ (first last : Member) (master : ℕ) (handover : Handover) (term applie
 
 -- ---- what was asked of a source
 
--- a target asked a master for what it has of a tablet, and its message stands on the wire
+-- a target asked a master for what it has of a tablet, and its message is on the wire
 pub record IsAsked (v : View) (asker master : ℕ) (tenure : Tenure) : Type 0 where
   covered : is_some (row_of v.rows tenure.tablet) ≡ true
   says :
@@ -158,7 +158,7 @@ pub frozen_is : (role : Role) → is_frozen role ≡ true → role ≡ roles.Fro
 frozen_is roles.Frozen holds = refl
 frozen_is _ holds = absurd (cc holds)
 
--- a master that is asked answers where it is frozen at a term, and else does nothing
+-- a master that is asked answers if it is frozen at a term, and else does nothing
 answers_frozen : (w : World) (asker source tablet term : ℕ) (body : Body) → IsSound w
     → filled w.ledger.journal [] (from_master (master_at w source) (nodes.Master asker) body)
     ≡ from_master (master_at w source) (nodes.Master asker) body

@@ -32,9 +32,9 @@ use Rattle.rk_inv_events.proofs.Words.{truth_in}
 use Rattle.rk_inv_events.proofs.events.RowsApart.{has_row}
 use Rattle.rk_inv_events.proofs.events.Working.{put_again, reached, sound_changed, sound_unchanged, stays, view_unchanged}
 
--- ---- The live items of a range in records are the scan of what counts for it, where the records have the newest of each key.
+-- ---- The live items of a range in records are the scan of what counts for it, if the records have the newest of each key.
 
--- items that are put one after the other stand in scan order
+-- items that are put one after the other are in scan order
 order_put : (done items : List Held) → IsInScanOrder done → IsInScanOrder (fold (λ list item. with_item item list) done items)
 order_put done [] order = order
 order_put done (item ∷ items) order = order_put (with_item item done) items (order_with_item item done order)
@@ -219,7 +219,7 @@ module _ (v : View) (sound : SoundView v) (row : Row) (source target : Member) (
 -- ---- What a target leaves that replays items of its source one after the other: the lane stays sound, and each of them is found in its
 -- records.
 
--- a view with other records, where this is pulled
+-- a view with other records, in which this is pulled
 abbrev pub with_items : View → (ℕ → List Held) → (ℕ → ℕ → Pulling) → View
 with_items v records pullings = record v { records = records; pullings = pullings }
 
@@ -287,7 +287,7 @@ module _ (row : Row) (source target : Member) (worker : ℕ) (few : worker < 4) 
   abbrev pub AreOfSource : World → List Held → Type 0
   AreOfSource w items = (x : Held) → Contains items x → Contains (source_items (view w) row source) x
 
-  -- one is replayed, where it is newer than what is there
+  -- an item is replayed if it is newer than what is there
   replayed_one : (w : World) (item : Held) → IsSound w → IsPulling (view w) row source target → Contains (source_items (view w) row source) item
       → IsReplayed w target.master (item ∷ []) (replay_one row.tablet worker (master_at w target.master) item)
   replayed_one w item sound pulls of_source =

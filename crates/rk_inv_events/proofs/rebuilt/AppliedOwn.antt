@@ -43,7 +43,7 @@ module _ (v : View) (row : Row) (to place : ℕ) (sound : SoundView v) (has_row 
       and_from (eqb m.tablet row.tablet) (nat_le m.term row.term) (eq-eqb m.tablet row.tablet its) (le-leb m.term row.term fits.within) in
       false≢true (ap not (sym both) ∙ kept)
 
-  -- so what it marks tells nothing of the row
+  -- so what it marks records nothing of the row
   left_silent : (n : ℕ) (entry : Entry) → slice_get w.entries n ≡ Some entry → is_marked left_marks n ≡ true → IsSilent row.range entry
   left_silent n entry stands marked =
       let covered = covered_by left_marks n marked in

@@ -28,7 +28,7 @@ pub record HasPiece (own all now : List Entry) (carried : Carried) : Type 0 wher
       (entry : Entry) → Contains (as_entries (copies_of (items_of own) (items_of all)) ++ entries.Carried carried ∷ []) entry
       → Contains now entry
 
--- what stands as an entry is the item of one
+-- an entry that is made of items is that of one of them
 of_entries : (items : List Held) (entry : Entry) → Contains (as_entries items) entry → (item : Held) × Contains items item × (entries.Held item ≡ entry)
 of_entries [] entry stands = absurd (none_stands entry stands)
 of_entries (first ∷ items) entry stands = elim (stands_cases (entries.Held first) (as_entries items) entry stands) [
@@ -75,7 +75,7 @@ module _ (own all now : List Entry) (carried : Carried) (piece : HasPiece own al
         (Contains-append_left (as_entries copies) (entries.Carried carried ∷ []) (entries.Held x) (mapped entries.Held copies x stands)));
   }
 
--- all has just the items of a truth, own ones among them, and own entries tell no other ends than the truth; a Carried reaches each
+-- all has just the items of a truth, own ones among them, and own entries record no other ends than the truth; a Carried reaches each
 -- record of the range, is of ends that are known, and has no smaller floor
 pub record StandsIn (base : Base) (range : Range) (journal : List Placed) (truth own all : List Entry) (carried : Carried) : Type 0 where
   pub items : (item : Held) → Contains (items_of all) item ↔ Contains (items_of truth) item

@@ -6,7 +6,7 @@ use Rattle.rk_inv_base.proofs.Words.{cases_Bool, copies_of, has_version, is_in, 
 use Rattle.rk_inv_base.proofs.Words.{newest_is, newest_items, newest_items_are, newest_none, newest_own, record_of}
 use Rattle.rk_inv_events.proofs.Words.{HasBoth, filter_from, filter_stands, plain_fewer, stands_is_found, table_over, by_found}
 
--- an item of the version of one stands among these
+-- one of these items has the table, key and version of an item
 record HasVersion (items : List Held) (item : Held) : Type 0 where
   pub other : Held
   pub stands : Contains items other

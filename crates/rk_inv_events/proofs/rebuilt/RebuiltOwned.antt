@@ -20,7 +20,7 @@ use Rattle.rk_inv_events.proofs.rebuilt.InPlace.{HasPiece, StandsIn, all_plain, 
 use Rattle.rk_inv_events.proofs.rebuilt.Newest.{in_all, table_same}
 use Rattle.rk_inv_events.proofs.rebuilt.Served.{IsServed, all_served}
 
--- each end that was read is told by the truth, or by the part of the rest
+-- each end that was read is recorded by the truth, or by the part of the rest
 module _ (truth part : List Entry) (members : List (List Entry)) (order : TellInOrder truth part members) where
   abbrev told_whole : List Ended
   told_whole = told (truth ++ part)

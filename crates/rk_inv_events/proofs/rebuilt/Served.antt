@@ -33,7 +33,7 @@ pub record HasLeft (asked : ℕ → Option LastCall) (journal : List Placed) (en
   pub unrecorded : has_record journal call.client call.seq ≡ false
   pub leaves : change_of call.op (outcome_of end.end) ≡ change_by entry
 
--- entries tell all with one more of them
+-- entries still record all with one more of them
 tell_with : (range : Range) (journal : List Placed) (entry : Entry) (old now : List Entry) → IsInserted entry old now → TellAll range journal old → TellAll range journal now
 tell_with range journal entry old now put =
     tell_then range journal old now (λ table key end stands. told_of_key entry old now put table key end stands)
@@ -97,7 +97,7 @@ module _ (base : Base) (range : Range) (asked : ℕ → Option LastCall) where
     legal_now : IsLegal (base_map base) (journal ++ new ∷ [])
     legal_now = legal_push (base_map base) journal new legal was_legal.0
 
-    -- ---- what is told
+    -- ---- what is recorded
 
     newest_here : AreNewest truth entry
     newest_here = (above_first truth rest entry was.above).0
@@ -226,7 +226,7 @@ module _ (base : Base) (range : Range) (asked : ℕ → Option LastCall) where
 
   -- ---- entry by entry
 
-  -- truth and rest tell the history that these records make
+  -- truth and rest record the history that these records make
   pub record IsServed (truth rest : List Entry) (journal : List Placed) : Type 0 where
     pub legal : IsLegal (base_map base) journal
     pub history : Tells truth rest journal

@@ -23,7 +23,7 @@ use Rattle.rk_inv_events.proofs.rebuilt.RebuiltOwned.{may_own, read_of}
 use Rattle.rk_inv_events.proofs.reports.Reported.{IsAbout, at_phase, coordinated, sound_about, told_owner}
 
 module _ (v : View) (row : Row) (lineage : List Member) (to place : ℕ) (ends : List Ended) (sound : SoundView v) (may : MayTakeRebuiltFormed v row lineage to place ends) where
-  -- its own entries count from the place that it told
+  -- its own entries count from the place that it reported
   read_back : IsReadBack (truths v row) (rests v row) (read_of v row to place)
   read_back = rw (rebuilt_at (v.handovers to row.tablet).role (v.written to).applied place may.may.rebuilt).role_is at
       (read_of_rebuilt v row lineage to place ends sound may)
@@ -38,7 +38,7 @@ module _ (v : View) (row : Row) (lineage : List Member) (to place : ℕ) (ends :
 
 -- ---- the coordinator takes a Rebuilt
 
--- each master that rebuilt a row, and told it, may own that row
+-- each master that rebuilt a row, and reported it, may own that row
 abbrev TellersMayOwn : World → Type 0
 TellersMayOwn w =
     (row : Row) (lineage : List Member) (to place : ℕ) (ends : List Ended) → MayTakeRebuilt (view w) row lineage to place ends
@@ -78,7 +78,7 @@ module _ (w : World) (number sender : ℕ) (sound : IsSound w) (rebuilt : Rebuil
           sound_all_sent now (own_to to row ∷ []) after
           (one_sent (view now) (own_to to row) (may_order_own (view now) owned after at to rebuilt.place refl))
 
-      -- the marks are those of the tenure that it tells
+      -- the marks are those of the tenure that it reports
       marks_gone : MayOwnRebuilt (view w) row lineage to rebuilt.place rebuilt.ends
           → IsSound (with_all_sent (with_ledger (row_owned_in w row to rebuilt.place) (without_marks (with_ends w.ledger rebuilt.ends) rebuilt.tenure.tablet rebuilt.tenure.term)) (own_to to row ∷ []))
       marks_gone may =

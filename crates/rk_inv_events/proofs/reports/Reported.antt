@@ -24,13 +24,13 @@ abbrev pub coordinated : World → Coordinated → World
 coordinated w taken =
     (with_sends (with_ledger (with_coordinator w taken.coordinator) (with_rebuilt w.ledger taken.rebuilt)) taken.sends).world
 
--- a row stands at the coordinator, at the term of a tenure of its tablet
+-- a row is at the coordinator, at the term of a tenure of its tablet
 pub record IsAbout (w : World) (tenure : Tenure) (row : Row) : Type 0 where
   pub stands : Contains w.coordinator.rows row
   pub its : IsOf row tenure
   pub found : row_of w.coordinator.rows row.tablet ≡ Some row
 
--- a report is taken soundly where what it says of its row, at that row's term, is
+-- a report is taken soundly if what it says of its row, at that row's term, is
 pub sound_about : (w : World) (sender : ℕ) (tenure : Tenure) (taken : Row → Coordinated) → IsSound w
     → ((row : Row) → IsAbout w tenure row → IsSound (coordinated w (taken row)))
     → IsSound (coordinated w (about w.coordinator taken (row_for w.coordinator sender tenure)))
@@ -49,7 +49,7 @@ sound_about w sender tenure taken sound by_row =
       found = subst (λ (n : ℕ). row_of w.coordinator.rows n ≡ Some row) (sym number) is;
     })) (λ other. sound)))
 
--- a report counts only where it comes from the master that the row waits for
+-- a report counts only if it comes from the master that the row waits for
 only_from : (w : World) (taken : Coordinated) (own : Bool) → IsSound w → IsSound (coordinated w taken)
     → IsSound (coordinated w (cond own taken (unanswered w.coordinator)))
 only_from w taken own sound does = either_way (λ made. IsSound (coordinated w made)) own does sound
@@ -61,12 +61,12 @@ pub told_owner : (w : World) (row : Row) → IsSound w → Contains w.coordinato
 told_owner w row sound here owner from is own = only_from w (answered w.coordinator (own_to owner row ∷ [])) own sound
     (sound_all_sent w (own_to owner row ∷ []) sound (one_sent (view w) (own_to owner row) (may_own (view w) row sound here owner from is)))
 
--- a row that is at another phase stands among the rows then
+-- a row that is at another phase is among the rows then
 pub at_phase : (rows : List Row) (row : Row) (phase : Phase) → row_of rows row.tablet ≡ Some row
     → Contains (changed_rows rows row.tablet row.term phase) (row_at row row.term phase)
 at_phase rows row phase found = rw found (new_stands rows row.tablet row (row_at row row.term phase) found)
 
--- ---- a target that told its place
+-- ---- a target that reported its place
 
 module _ (v : View) (row : Row) (sound : SoundView v) (stands : Contains v.rows row) (source sfrom target dfrom : ℕ) (is : row.phase ≡ Opening source sfrom target (Some dfrom)) where
   ready_post : post_of row.phase target ≡ ReadyTarget dfrom
@@ -115,7 +115,7 @@ module _ (w : World) (number sender : ℕ) (sound : IsSound w) where
               (says (bodies.Ready ready) stands row of.stands of.its)
       by_phase row of _ is = sound
 
-  -- ---- a source tells what it hands over
+  -- ---- a source reports what it hands over
 
   -- what a Transfer hands over for a row that opens
   handed_over : (transfer : Transfer) → Stands (bodies.Transfer transfer) → (row : Row) → Contains w.coordinator.rows row → IsOf row transfer.tenure

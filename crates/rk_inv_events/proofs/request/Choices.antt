@@ -37,8 +37,8 @@ IsOfFresh choice = ⊤
 
 -- ---- a fresh call
 
--- what is done with a fresh call: what is lacking of its key is wanted, a get of which all is known tells what was found, and a mutation is
--- staged
+-- what is done with a fresh call: what is lacking of its key is wanted, a get of which all is known returns what was found, and a mutation
+-- is staged
 data FreshIs (number : ℕ) (tablet : Tablet) (call : Call) (state : Option Held) : Choice → Type 0 where
   wants : needs_state call.op ≡ true → is_known tablet (hash_of call.key) state ≡ false → FreshIs number tablet call state (Wants number)
   finds :
@@ -82,7 +82,7 @@ module _ (number : ℕ) (tablet : Tablet) (call : Call) (state : Option Held) wh
   pub put_off : (other : ℕ) → fresh_choice number tablet call state ≡ Wants other → IsUnknown other
   put_off other = grind (arith, fresh_is)
 
-  -- a get of which all is known tells what was found
+  -- a get of which all is known returns what was found
   pub record IsRead (outcome : Outcome) : Type 0 where
     pub op_is : call.op ≡ ops.Get
     pub known : is_known tablet (hash_of call.key) state ≡ true
@@ -166,6 +166,6 @@ fresh master call choice of_fresh = go (chose master call)
     go (repeated end its) is = absurd (subst IsOfFresh (sym is) of_fresh)
     go (as_fresh made its) is = subst (IsFresh master call) is its
 
--- a call is redirected where no tablet serves its key
+-- a call is redirected if no tablet serves its key
 pub redirected : (master : Master) (call : Call) → choice_of master call ≡ Redirects → serving master call.table call.key ≡ None
 redirected master call = grind (arith, chose, serving, is_of_fresh, state_of)

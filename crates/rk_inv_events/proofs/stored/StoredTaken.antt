@@ -41,7 +41,7 @@ use Rattle.rk_inv_events.proofs.events.Working.{moved_itself, put_again, reached
 use Rattle.rk_inv_events.proofs.events.Sending.{may_reply, sound_all_sent}
 use Rattle.rk_inv_events.proofs.events.Coordinating.{of_master}
 
--- ---- What a master makes of its next entry: its number and its log stay, one more entry is applied, and each call that it served is told.
+-- ---- What a master makes of its next entry: its number and its log stay, one more entry is applied, and each call it served is answered.
 
 -- the reply to a call that was served
 abbrev pub reply_to : ℕ → Served → Message
@@ -51,7 +51,7 @@ reply_to master one = record {
   body = bodies.Reply (record { seq = one.call.seq; stamp = 0; place = 0; answer = answers.Done one.outcome });
 }
 
--- work that tells the clients of all that it served, and leaves number and log as they were; its tablets may go on as before
+-- work that answers the clients of all that it served, and leaves number and log as they were; its tablets may go on as before
 pub record IsTold (master : Master) (worked : Worked) : Type 0 where
   pub number : worked.master.number ≡ master.number
   pub log : worked.master.log ≡ master.log
@@ -67,8 +67,8 @@ pub apply_is : (master : Master) (entry : Entry) → apply_entry master entry �
 apply_is master entry =
     λ i. with_ended (with_applied (item_put master entry i)) master.applied (get master.calls master.applied) (told_by entry)
 
--- something of a master and of what it makes of its next entries, of each of which Q is so: it is so where none is applied, where one is with
--- which no call ends, and where one is with which a call ends, and of work that goes on after such work
+-- something of a master and of what it makes of its next entries, of each of which Q is so: it is so if none is applied, if one is with
+-- which no call ends, and if one is with which a call ends, and of work that goes on after such work
 pub record Passes (Q : Entry → Type 0) (R : Master → Worked → Type 0) : Type 0 where
   pub stays : (master : Master) → R master (changed master)
   pub silent : (master : Master) (entry : Entry) → Q entry → R master (changed (passed master entry))
@@ -162,7 +162,7 @@ module _ {X : Type 0} where
 
 -- ---- the record of a served call
 
--- a mutation that was served has its record, before which none of its call stands
+-- a mutation that was served has its record, before which there is none of its call
 pub record HasFirst (journal : List Placed) (one : Served) : Type 0 where
   pub before : List Placed
   pub placed : Placed
@@ -242,7 +242,7 @@ module _ (w : World) (master : ℕ) (now : Master) (ledger : Ledger) where
 
 -- ---- all of them
 
--- a lane is sound where a master has worked so, and all that it served has its record
+-- a lane is sound once a master has worked so, and all that it served has its record
 pub record IsWorked (w : World) (master : ℕ) (ledger : Ledger) (worked : Worked) : Type 0 where
   pub sound : IsSound (with_work w master worked.master (with_all_served 0 ledger worked.served))
   pub have : All (HasFirst (with_all_served 0 ledger worked.served).journal) worked.served
@@ -286,7 +286,7 @@ module _ (w : World) (master number : ℕ) where
   abbrev kept : Tablet
   kept = tablet_in w master number
 
-  -- a tablet that closes freezes where nothing of it is staged, and else stays as it is
+  -- a tablet that closes freezes if nothing of it is staged, and else stays as it is
   pub freezes_as : (P : Master → Type 0) → lives w master ≡ true → kept.handover.role ≡ roles.Closing → P own
       → (MayFreeze (view w) master number → P (tablet_frozen own number kept (as_frozen kept.handover)))
       → P (freezing own number kept (frozen kept.handover kept.handover.term))
@@ -401,7 +401,7 @@ sound_going_on w master alive ledger m may sound =
 
 -- ---- What a master may send to a client whose call it served: the end of the call, with stamp and place of its record.
 
--- ---- the place of the first thing that passes a test, where it is known what stands before it
+-- ---- the place of the first thing that passes a test, if it is known what is before it
 
 module _ {X : Type 0} (p : X → Bool) (x : X) (behind : List X) (passes : p x ≡ true) where
   place_is : (before : List X) → list_any p before ≡ false → position_or_len p (before ++ x ∷ behind) ≡ length before
@@ -415,14 +415,14 @@ module _ {X : Type 0} (p : X → Bool) (x : X) (behind : List X) (passes : p x �
   first_place : (before : List X) → list_any p before ≡ false → position p (before ++ x ∷ behind) ≡ Some (length before)
   first_place before none = grind (arith, ltb, place_is, cond-true, lt-ltb, length-append)
 
--- and what stands there
+-- and what is there
 got_there : {X : Type 0} (before : List X) (x : X) (behind : List X) → slice_get (before ++ x ∷ behind) (length before) ≡ Some x
 got_there [] x behind = refl
 got_there (first ∷ before) x behind = got_there before x behind
 
 -- ---- replies
 
--- the outcome of a call whose record is found at this place may be told
+-- the outcome of a call whose record is found at this place may be reported
 pub may_tell_at : (v : View) (master : ℕ) (served : List Served) (one : Served) (place : ℕ) (placed : Placed)
     → place_of v.journal served one.call.client one.call.seq ≡ Some place → slice_get v.journal place ≡ Some placed
     → placed.call.client ≡ one.call.client → placed.call.seq ≡ one.call.seq → placed.outcome ≡ one.outcome
@@ -460,13 +460,13 @@ module _ (v : View) (master : ℕ) (served : List Served) where
       (All-weaker (HasFirst v.journal) (λ one. MaySend v (filled v.journal served (reply_to master one)))
       (λ one has. may_tell_end one has (none_read have one.call.client one.call.seq)) served have))
 
--- ---- A lane stays sound when a master takes a Stored: the length is told, what every backup holds by then is applied, the tablets
--- that waited for that go on, and the clients of the calls that end with it are told. A well formed lane with room has what the master needs
--- for that, and the sender is one of its backups.
+-- ---- A lane stays sound when a master takes a Stored: the length is noted, what every backup holds by then is applied, the tablets
+-- that waited for that go on, and the clients of the calls that end with it are answered. A well formed lane with room has what the master
+-- needs for that, and the sender is one of its backups.
 
 -- ---- a master has worked
 
--- where a master has worked and all that it served has its record, it may tell its clients
+-- once a master has worked and all that it served has its record, it may answer its clients
 module _ (w : World) (master number : ℕ) (worked : Worked) where
   abbrev after : Ledger
   after = with_all_served 0 w.ledger worked.served
@@ -484,7 +484,7 @@ module _ (w : World) (master number : ℕ) (worked : Worked) where
 
 -- ---- a Stored
 
--- a master that was told so much by a backup, and what every backup holds by then is applied
+-- a master to which a backup reported so much, and what every backup holds by then is applied
 abbrev told_so : Master → ℕ → Stored → Master
 told_so master backup stored = with_known master backup stored.segment stored.length
 
@@ -498,7 +498,7 @@ module _ (w : World) (number master backup : ℕ) (stored : Stored) (sound : IsS
   abbrev applied : Worked
   applied = held_applied (told_so (master_at w master) backup stored)
 
-  -- the length may be told, and then the entries be applied
+  -- the length may be noted, and then the entries be applied
   pub all_applied : lives w master ≡ true → IsWorked w master w.ledger (held_applied (told_so (master_at w master) backup stored))
   all_applied alive = sound_all_applied w master alive (newly_held known) known w.ledger (committed known.log)
       (sound_told w master backup stored.segment stored.length sound

@@ -23,7 +23,7 @@ use Rattle.rk_inv_events.proofs.events.Pairs.{each_found, others_apart}
 use Rattle.rk_inv_events.proofs.events.Coordinating.{tablets_order}
 
 -- ---- Work of a master that sends messages alone: it serves no call and marks no piece, and none of its messages is a reply. A sound lane
--- stays sound where a master does such work. So it does where a master asks for batches on its turn, which changes what is pulled alone.
+-- stays sound when a master does such work. So it does when a master asks for batches on its turn, which changes what is pulled alone.
 
 -- work that sends messages alone
 pub record OnlySends (v : View) (worked : Worked) : Type 0 where
@@ -69,7 +69,7 @@ module _ (w : World) (master seen : ℕ) (worked : Worked) (only : OnlySends (vi
 
 -- ---- what is pulled
 
--- a view where this is pulled
+-- a view in which this is pulled
 abbrev pub with_pullings : View → (ℕ → ℕ → Pulling) → View
 with_pullings v pullings = record v { pullings = pullings }
 
@@ -77,7 +77,7 @@ with_pullings v pullings = record v { pullings = pullings }
 pub may_send_pulling : (v : View) (pullings : ℕ → ℕ → Pulling) (message : Message) → MaySend v message → MaySend (with_pullings v pullings) message
 may_send_pulling v pullings message may = assumption may
 
--- a lane is sound with this master, which differs from the one that it has in what it pulls alone
+-- a lane is sound with this master, which differs from the master that it has in what it pulls alone
 pub record IsSoundPulling (w : World) (master : ℕ) (now : Master) : Type 0 where
   pub sound : IsSound (with_master w master now)
   pub pullings : ℕ → ℕ → Pulling
@@ -118,7 +118,7 @@ module _ (P : Master → Type 0) (now : Master) (number : ℕ) (tablet : Tablet)
 abbrev pub HasTablet : Master → ℕ × Tablet → Type 0
 HasTablet master pair = get master.tablets pair.0 ≡ Some pair.1
 
--- so it is the one that it finds there
+-- so it is the tablet that the master finds there
 pub finds : (master : Master) (pair : ℕ × Tablet) → HasTablet master pair → tablet_at master pair.0 ≡ pair.1
 finds master pair has = ap (λ (found : Option Tablet). unwrap_or found no_tablet) has
 
@@ -236,7 +236,7 @@ module _ (w : World) (sound : IsSound w) (master : ℕ) (lives : (view w).live m
 
 -- ---- what the backups lack
 
--- what sends messages alone does so also where other things are pulled
+-- what sends messages alone does so also if other things are pulled
 sends_pulling : (v now : View) (worked : Worked) → ((message : Message) → MaySend v message → MaySend now message) → OnlySends v worked → OnlySends now worked
 sends_pulling v now worked still only = search (filled, worked.sends, only.sends, only.served, only.marked)
 

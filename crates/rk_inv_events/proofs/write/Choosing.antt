@@ -7,7 +7,7 @@ use Rattle.rk_model.specs.History.{record_of as map_record_of}
 use Rattle.rk_model.specs.Machine.{Entry as MapEntry}
 use Rattle.rk_inv_events.proofs.Words.{not-false}
 
--- a call may write this value, for the tablet of a number, where the map has this entry at its key: it takes this version
+-- a call may write this value, for the tablet of a number, if the map has this entry at its key: it takes this version
 pub record MayWrite (number version : ℕ) (call : Call) (entry : MapEntry) (other : ℕ) (value : Option (List ℕ)) : Type 0 where
   pub number_is : other ≡ number
   pub allowed : Allowed entry call.op (outcome_of (end_of_item version value))

@@ -76,7 +76,7 @@ module _ (truth rest staged : List Held) (table : ℕ) (key : List ℕ) (plain :
         ];
       })
 
-  -- where none is staged, that of the truth is
+  -- if none is staged, that of the truth is
   none_newest : newest staged table key ≡ None → newest (truth ++ rest) table key ≡ newest truth table key
   none_newest none = ap (λ (f : ℕ → List ℕ → Option Held). f table key) (newest_from-append none_found truth rest)
       ∙ newest_from-none (newest truth) rest table key (λ x at. (newest_none staged table key).0 none x (forth x at))
@@ -91,11 +91,11 @@ held_in entry item at = grind (arith, stands_cases, none_stands)
 
 -- ---- a master that serves a row
 
--- one entry stands at a place
+-- a place has just one entry
 one_at : (list : List Entry) (place : ℕ) (a b : Entry) → slice_get list place ≡ Some a → slice_get list place ≡ Some b → a ≡ b
 one_at list place a b first second = let both : Some a ≡ Some b = sym first ∙ second in cc both
 
--- a range has an item where it has its key
+-- a range has an item if it has its key
 has_by_key : (range : Range) (a b : ℕ) (x y : List ℕ) → a ≡ b → x ≡ y → has_key range a x ≡ has_key range b y
 has_by_key range a b x y table key i = has_key range (table i) (key i)
 
@@ -187,7 +187,7 @@ module _ (v : View) (sound : SoundView v) (row : Row) (has_row : Contains v.rows
         ∙ sym (ap (λ (l : List Held). live l table key) all)
 
 -- ---- A mutation that was asked, and that the tablet which has its key does not know, is the last call of its client and has no record;
--- and nothing is staged of its row for its client, where its master has not staged it.
+-- and nothing is staged of its row for its client, if its master has not staged it.
 
 -- ---- completions
 
@@ -335,7 +335,7 @@ module _ (base : Base) (journal : List Placed) (asked : ℕ → Option LastCall)
       (subst (λ (m : Map). AreAboveMap range m (truth ++ entry ∷ [])) (λ i. with_change map (table i) (key i) (sym leaves i))
       (low_inserted range map call entry truth (truth ++ entry ∷ []) own (inserted_last entry truth) low))
 
-  -- and one that makes none
+  -- and an entry that makes none
   low_beside : (map : Map) (truth : List Entry) (entry : Entry) → AreAboveMap range map truth → AreAboveMap range map (truth ++ entry ∷ [])
   low_beside map truth entry low table key inside =
       let was : last_version (map table key) < floor_of (of_key table key truth) = low table key inside in

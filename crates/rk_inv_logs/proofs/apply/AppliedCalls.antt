@@ -4,7 +4,7 @@ use Rattle.rk_inv_base.proofs.Words.{All-weaker, IsReached, Placed, Range, TellA
 use Rattle.rk_inv_base.proofs.Words.{of_key, tells_of, told, told_by}
 use Rattle.rk_inv_logs.proofs.apply.Inserted.{IsInserted, inserted_kept, inserted_out, told_still}
 
--- what is told of a key is told with one more entry
+-- what is recorded of a key is still recorded with one more entry
 pub told_of_key : (entry : Entry) (old now : List Entry) → IsInserted entry old now → (table : ℕ) (key : List ℕ) (end : Ended) → Contains (told (of_key table key old)) end → Contains (told (of_key table key now)) end
 told_of_key entry old now put table key end at = elim (cases_Bool (tells_of table key entry)) [
   | inl tells ↦ told_still entry (of_key table key old) (of_key table key now) (inserted_kept entry old now put (tells_of table key) tells)
@@ -12,7 +12,7 @@ told_of_key entry old now put table key end at = elim (cases_Bool (tells_of tabl
   | inr silent ↦ subst (λ (l : List Entry). Contains (told l) end) (sym (inserted_out entry old now put (tells_of table key) silent)) at
 ]
 
--- so where of each key no less is told, each mutation is
+-- so if no less is recorded of each key, the end of each mutation still is
 pub tell_then : (range : Range) (journal : List Placed) (old now : List Entry) → ((table : ℕ) (key : List ℕ) (end : Ended) → Contains (told (of_key table key old)) end → Contains (told (of_key table key now)) end)
     → TellAll range journal old → TellAll range journal now
 tell_then range journal old now more =

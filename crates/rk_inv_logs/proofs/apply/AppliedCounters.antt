@@ -11,11 +11,11 @@ use Rattle.rk_entry.specs.declared.entry.Entry.TheVariants as entries
 
 -- ---- the entry of a call
 
--- tells of the call's key
+-- the entry of a call concerns the call's key
 pub tells_its : (call : Call) (entry : Entry) → IsEntryOf call entry → tells_of call.table call.key entry ≡ true
 tells_its call entry own = grind (arith, is_of_from, and_from, eqb, bytes_eq, eq-eqb, bytes_eq-Decides)
 
--- what tells of a key, with it
+-- the floor of the entries that concern a key is no smaller with it
 pub key_floor : (entry : Entry) (old now : List Entry) → IsInserted entry old now → (table : ℕ) (key : List ℕ) → floor_of (of_key table key old) ≤ floor_of (of_key table key now)
 key_floor entry old now put table key = elim (cases_Bool (tells_of table key entry)) [
   | inl tells ↦ floor_more entry (of_key table key old) (of_key table key now) (inserted_kept entry old now put (tells_of table key) tells)

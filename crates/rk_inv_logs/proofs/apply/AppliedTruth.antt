@@ -54,7 +54,7 @@ module _ (map : Map) (truth : List Entry) (call : Call) (table : ℕ) (key : Lis
   live_last (entries.Refused refused) own above same = without_item (entries.Refused refused) refl ∙ same
   live_last _ own above same = absurd own
 
--- wherever it stands
+-- wherever the entry is
 pub live_inserted : (old now : List Entry) (entry : Entry) → IsInserted entry old now → AreNewest old entry → (table : ℕ) (key : List ℕ) → live_items (items_of now) table key ≡ live_items (items_of (old ++ entry ∷ [])) table key
 live_inserted old now entry put above table key = ap (λ (l : List Entry). live_items (items_of l) table key) (sym (append_nil now))
     ∙ ap record_of (newest_inserted old now entry [] put above table key)

@@ -86,7 +86,7 @@ piece_same number from handover merged w closing applied piece = search piece
 
 -- ---- the entry
 
--- where the master has nothing of the range of a tablet, it has nothing with the item of an entry
+-- if the master has nothing of the range of a tablet, it still has nothing with the item of an entry
 abbrev pub StaysBare : View → ℕ → Entry → ℕ → Type 0
 StaysBare v master entry tablet =
     (from : ℕ) (w : Written) → IsBare (v.handovers master tablet).range from w (v.records master)
@@ -107,7 +107,7 @@ pub record Applies (v : View) : Type 0 where
   pub firsts :
       (row : Row) → Contains v.rows row → (first second : Member) (more : List Member) → lineage_of row.phase ≡ first ∷ second ∷ more
       → IsStill v.written (with_one_applied v.written master) row.range first
-  -- an item of a row stands behind the place of the target that was granted it, and a master that waits for a grant has none of it
+  -- an item of a row is behind the place of the target that was granted it, and a master that waits for a grant has none of it
   pub granted :
       (row : Row) → Contains v.rows row → (first last : Member) → lineage_of row.phase ≡ first ∷ last ∷ [] → last.master ≡ master
       → is_granted (v.handovers last.master row.tablet).role ≡ true
@@ -136,8 +136,8 @@ pub record Applies (v : View) : Type 0 where
   pub frozen :
       (q tablet : ℕ) → (v.handovers q tablet).role ≡ roles.Frozen → kept q tablet ≡ v.completions q tablet
 
--- what is to be shown of a row: what counts for it tells its history, and so will what a target has once its source is forgotten. No item
--- is lost, and no floor rises; who answers, and what is handed over, tells all of it; and the records of the first member have the newest
+-- what is to be shown of a row: what counts for it records its history, and so will what a target has once its source is forgotten. No item
+-- is lost, and no floor rises; who answers, and what is handed over, has all of it; and the records of the first member have the newest
 pub record Tells (v now : View) (row : Row) : Type 0 where
   pub history : TellHistory v.base row.range (truths now row) (rests now row) now.journal v.asked
   pub moving : IfSome (target_truth now.written v.handed row row.phase) (TellAll row.range now.journal)

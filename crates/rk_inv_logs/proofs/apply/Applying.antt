@@ -65,7 +65,7 @@ pub record Applying (v : View) : Type 0 where
   pub waits : Waits v.rows (v.handovers master) (v.written master) master (v.written master).applied call
   pub ended : IsCallEnd call waits.entry end
 
--- so it is where the entry may be applied
+-- so it is if the entry may be applied
 abbrev pub applying : (v : View) (master : ℕ) (call : Call) → SoundView v → MayApplyCall v master call → Applying v
 applying v master call sound may =
     let waits = sound.rest.waiting master may.held.lives (v.written master).applied call may.waits in
@@ -126,7 +126,7 @@ module _ (v : View) (a : Applying v) where
   pub apart_in : (other : Row) → Contains v.rows other → AreApart (lineage_of other.phase)
   apart_in other stands = formed_apart other.phase (row_in v a.sound other stands).formed
 
-  -- the first of two members is not the one that has an entry of the range
+  -- if the first of two members is the master, the entry is not of the range
   pub first_apart : (other : Row) → Contains v.rows other → (first second : Member) (more : List Member) → lineage_of other.phase ≡ first ∷ second ∷ more → first.master ≡ a.master → counts other.range entry ≡ false
   first_apart other has first second more lineage at = elim (row_cases other has) [
     | inl same ↦
@@ -177,7 +177,7 @@ module _ (v : View) (a : Applying v) where
       (rest_grows v.written after.written other.range (lineage_of other.phase) last.0 [] last.1
       (sym (still_beside other.range last.0 (λ at. outside other stands apart)).rest))
 
-  -- the truth of the row has the entry now, which stood before its rest
+  -- the truth of the row has the entry now, which was the first of its rest
   pub truth_here : IsInserted entry (truths v its_row) (truths after its_row)
   truth_here =
       truth_grows v.base v.written after.written its_row.range (IsInserted entry)

@@ -47,7 +47,7 @@ has_all_first phase master term handover =
     grind (arith, cond_both, has_all_items, eqb-true, target_post, place, rebuilder_post, is_member, first_of)
 
 module _ (v : View) (a : Applying v) where
-  -- the entry is above what its master told of the row
+  -- the entry's item is the newest of its key in any list of items of the row's truth
   newest_alone : (list : List Entry) → ((x : Held) → Contains (items_of list) x → Contains (items_of (truths v (its_row v a))) x) → AreNewest list (entry v a)
   newest_alone list within = All-weaker (IsAboveAll (items_of (truths v (its_row v a)))) (IsAboveAll (items_of list))
       (λ item above.
@@ -55,7 +55,7 @@ module _ (v : View) (a : Applying v) where
       All-contains (λ (x : Held). is_of item.table item.key x ≡ true → x.version < item.version) (items_of (truths v (its_row v a))) other
       above (within other at))) (items_in (entry v a)) (newest_here (serving v a))
 
-  -- the records of the first member have the newest of the row, also where that is the master
+  -- the records of the first member have the newest of the row, also if that is the master
   items_here : (q : ℕ) (lineage : List Member) → lineage_of (its_row v a).phase ≡ lineage → AreApart lineage → last_of lineage ≡ Some a.waits.last → IfSome (first_of lineage) (λ m. m.master ≡ q)
       → IfSome (first_of lineage) (λ m. IsTableOf (its_row v a).range (member_truth v.written (its_row v a).range m) (v.records q))
       → IfSome (first_of lineage) (λ m. IsTableOf (its_row v a).range (member_truth (after v a).written (its_row v a).range m) ((after v a).records q))
@@ -120,7 +120,7 @@ module _ (v : View) (a : Applying v) where
   own_from role lineage is at_term role_is =
       grind (arith, its_row, eq-eqb, post_of, its_fits, lineage_of, rebuilder_from, place, apart_in, last_stands, last_of, is_last)
 
-  -- its own entries tell the end of the call
+  -- its own entries record the end of the call
   own_tells : (from : ℕ) → from ≤ place v a → (range : Range) → counts range (entry v a) ≡ true → Contains (told (member_material v.written range (member_at a.master from))) a.end
   own_tells from behind range inside =
       let w : Written = v.written a.master in
@@ -139,7 +139,7 @@ module _ (v : View) (a : Applying v) where
     abbrev own : List Entry
     own = member_material v.written other.range (member_at a.master (own_place (v.handovers a.master other.tablet).role))
 
-    -- an entry of the row stands behind the place where its own ones begin
+    -- an entry of the row is behind the place where its own ones begin
     pub behind_own : counts other.range (entry v a) ≡ true → own_place (v.handovers a.master other.tablet).role ≤ place v a
     behind_own counted = elim (row_cases v a other has) [
       | inl same ↦
@@ -171,7 +171,7 @@ module _ (v : View) (a : Applying v) where
 
   -- ---- targets
 
-  -- an entry of the row of a target stands behind its place
+  -- an entry of the row of a target is behind the target's place
   pub own_behind : (other : Row) → Contains v.rows other → (last : Member) → last_of (lineage_of other.phase) ≡ Some last → counts other.range (entry v a) ≡ true → last.from ≤ place v a
   own_behind other has last is counted = elim (row_cases v a other has) [
     | inl same ↦
@@ -237,7 +237,7 @@ module _ (v : View) (a : Applying v) where
       (λ _. fit one)
   handed_at other has _ is fit = tt
 
-  -- ---- what rows tell
+  -- ---- what rows record
 
   -- of the row
   tells_here : Tells v (after v a) (its_row v a)

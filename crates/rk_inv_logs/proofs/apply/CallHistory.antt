@@ -18,7 +18,7 @@ use Rattle.rk_inv_logs.proofs.apply.Inserted.{AreNewest, IsInserted, above_first
 use Rattle.rk_inv_logs.proofs.apply.Inserted.{plain_inserted, told_cases, told_new}
 use Rattle.rk_inv_logs.proofs.made.MadeOf.{IsOfLast, history_beside, map_beside}
 
--- the entry of a call stood first in the rest of a row, and comes into its truth; the call is its client's last, has no record, and leaves
+-- the entry of a call was first in the rest of a row, and comes into its truth; the call is its client's last, has no record, and leaves
 -- what its entry does
 pub record Serving : Type 0 where
   pub base : Base
@@ -99,7 +99,7 @@ module _ (s : Serving) where
   pub reaches_new : Reaches s.end new
   reaches_new = record { client = s.ended.client; reached = inr (sym s.ended.seq, refl) }
 
-  -- the entry tells its end, and nothing else
+  -- the entry records its end, and nothing else
   pub tells_end : (end : Ended) → Contains (told_by s.entry) end → s.end ≡ end
   tells_end end at = grind (arith, stands_cases, none_stands)
 

@@ -11,7 +11,7 @@ use Rattle.rk_inv_logs.proofs.apply.JoinedApplied.{view_joined}
 use Rattle.rk_entry.specs.declared.entry.Entry.TheVariants as entries
 
 module _ (w : World) (master : ℕ) (sound : IsSound w) (may : MayApply (view w) master) where
-  -- where no call waits
+  -- if no call waits
   module _ (none : get (master_at w master).calls (master_at w master).applied ≡ None) where
     -- the entry is none of a call, if it bears no mark
     no_call : (entry : Entry) → slice_get (log_in w master).entries (master_at w master).applied ≡ Some entry → is_marked (written_in w master).marks (master_at w master).applied ≡ false → is_call_entry entry ≡ true → ⊥

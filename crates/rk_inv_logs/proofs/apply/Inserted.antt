@@ -61,7 +61,7 @@ module _ {old now : List Entry} (more : HasMore old now) where
         ∙ ap (λ (l : List Entry). filter p more.before ++ l) (filter-append p more.block more.behind);
   }
 
-  -- the block stands there, and what stood there does; nothing else
+  -- the block is there, and what was there still is; nothing else
   pub more_there : (e : Entry) → Contains more.block e → Contains now e
   more_there e at =
       rw more.now_is
@@ -84,7 +84,7 @@ module _ {old now : List Entry} (more : HasMore old now) where
         ]
       ]
 
--- what fewer entries tell more do
+-- what fewer entries give, more entries give too
 pub told_among : {X : Type 0} (f : Entry → List X) (few many : List Entry) → ((e : Entry) → Contains few e → Contains many e) → (x : X) → Contains (flat_map f few) x → Contains (flat_map f many) x
 told_among f few many within x at = let of = flat_from f few x at in flat_of f many of.0 x (within of.0 of.1) of.2
 
@@ -126,7 +126,7 @@ module _ (entry : Entry) (old new : List Entry) (put : IsInserted entry old new)
   pub inserted_out : (p : Entry → Bool) → p entry ≡ false → filter p new ≡ filter p old
   inserted_out p fails = grind (arith, filter-append, filter_left_out)
 
-  -- ---- what is told
+  -- ---- what a function gives of the entries
 
   module _ {X : Type 0} (f : Entry → List X) where
     parts_now : flat_map f new ≡ flat_map f put.before ++ (f entry ++ flat_map f put.behind)
@@ -135,7 +135,7 @@ module _ (entry : Entry) (old new : List Entry) (put : IsInserted entry old new)
     parts_old : flat_map f old ≡ flat_map f put.before ++ flat_map f put.behind
     parts_old = ap (flat_map f) put.old_is ∙ flat_map-append f put.before put.behind
 
-    -- what was told is told, and so is what the entry tells
+    -- what it gave is still given, and so is what it gives of the entry
     pub told_still : (x : X) → Contains (flat_map f old) x → Contains (flat_map f new) x
     told_still = told_among f old new (more_still (more_one put))
 
@@ -168,7 +168,7 @@ floor_moved floor entry [] rest = refl
 floor_moved floor entry (first ∷ behind) rest = ap (λ (n : ℕ). fold floor_by n (behind ++ rest)) (raised_either floor entry first)
     ∙ floor_moved (floor_by floor first) entry behind rest
 
--- the floor is the same wherever the entry stands, and as great with it
+-- the floor is the same wherever the entry is, and as great with it
 pub floor_inserted : (entry : Entry) (old new rest : List Entry) → IsInserted entry old new → floor_of (new ++ rest) ≡ floor_of (old ++ entry ∷ rest)
 floor_inserted entry old new rest put = grind (arith, floor_of, append_assoc, fold-append, floor_by, floor_moved)
 
@@ -180,7 +180,7 @@ floor_more entry old new put =
 
 -- ---- items
 
--- an item that is above each other one of its key is the newest wherever it stands
+-- an item that is above each other one of its key is the newest wherever it is
 module _ (before behind rest : List Held) (item : Held) (above : IsAboveAll (before ++ behind) item) (table : ℕ) (key : List ℕ) where
   -- what was found is older
   older : (list : List Held) → ((x : Held) → Contains list x → Contains (before ++ behind) x) → is_of table key item ≡ true → (old : Held) → newest list table key ≡ Some old → old.version < item.version
@@ -233,7 +233,7 @@ without_items : (entry : Entry) (old new rest : List Entry) → IsInserted entry
 without_items entry old new rest put none = grind (arith, items_of, flat_map-append, items_in, same_items)
 
 module _ (old new : List Entry) where
-  -- so the newest of each key is the same wherever the entry stands
+  -- so the newest of each key is the same wherever the entry is
   pub newest_inserted : (entry : Entry) (rest : List Entry) → IsInserted entry old new → AreNewest old entry → (table : ℕ) (key : List ℕ) → newest (items_of (new ++ rest)) table key ≡ newest (items_of (old ++ entry ∷ rest)) table key
   newest_inserted (entries.Held held) rest put above table key =
       let b : List Held = items_of put.before in
@@ -278,7 +278,7 @@ module _ (old new : List Entry) where
 pub above_first : (truth rest : List Entry) (entry : Entry) → AreAbove (items_of truth) (items_of (entry ∷ rest)) → AreNewest truth entry × AreAbove (items_of truth ++ items_in entry) (items_of rest)
 above_first truth rest entry above = grind (arith, items_of, append_nil)
 
--- so what stands behind an entry that is put in is above all with it
+-- so what comes behind an entry that is put in is above all with it
 pub above_inserted : (entry : Entry) (old new rest : List Entry) → IsInserted entry old new → AreAbove (items_of old) (items_of (entry ∷ rest)) → AreAbove (items_of new) (items_of rest)
 above_inserted entry old new rest put above = above_fewer (items_of new) (items_of old ++ items_in entry) (items_of rest)
     (λ x at. elim (told_cases entry old new put items_in x at) [
@@ -332,7 +332,7 @@ module _ (list : List Entry) (place : ℕ) (entry : Entry) (stands : slice_get l
   unmarked_next marks from behind =
       grind (arith, unmarked_from, taken_next, unmarked_from_last, unless_marked, is_marked, length-take-le, within)
 
-  -- and stood first in what was not applied
+  -- and was the first of what was not applied
   pub rest_next : (marks : List Mark) (from : ℕ) → from ≤ place → unmarked_from marks (max from place) list ≡ unless_marked (is_marked marks place) entry ++ unmarked_from marks (max from (place + 1)) list
   rest_next marks from behind = grind (arith, unmarked_from, unmarked, dropped_next, is_marked, unless_marked)
 
@@ -346,7 +346,7 @@ module _ (range : Range) (list : List Entry) (entry : Entry) where
   pub counting_beside : counts range entry ≡ false → counting range (list ++ entry ∷ []) ≡ counting range list
   counting_beside outside = grind (arith, filter-append, counts, counting, filter_left_out, append_nil)
 
-  -- the items of side segments stand behind it
+  -- the items of side segments come behind it
   module _ (side : ℕ → List Entry) (names : named_by range entry ≡ []) where
     same_names : named range (list ++ entry ∷ []) ≡ named range list
     same_names = named_same range entry list false names

@@ -14,7 +14,7 @@ use Rattle.rk_inv_logs.specs.apply.Small.{with_item_of}
 use Rattle.rk_inv_logs.proofs.apply.Inserted.{AreNewest, IsInserted, newest_inserted, same_items}
 use Rattle.rk_entry.specs.declared.entry.Entry.TheVariants as entries
 
--- what is found stands there, and passes
+-- what is found is there, and passes
 found_at : (p : Held → Bool) (items : List Held) (item : Held) → find p items ≡ Some item → Contains items item × (p item ≡ true)
 found_at p [] item is = absurd (cc is)
 found_at p (first ∷ items) item is = elim (cases_Bool (p first)) [
@@ -87,7 +87,7 @@ module _ (range : Range) (old now : List Entry) (records : List Held) (order : I
     itself : (x : Held) → is_at x.table x.key x ≡ true
     itself x = is_of_from x.table x.key x refl refl
 
-    -- the item is the newest of its key, and stands there alone
+    -- the item is the newest of its key, and is there alone
     newest_item : (x : Held) → is_of x.table x.key item ≡ true → newest (items_of now) x.table x.key ≡ Some item
     newest_item x here = newest_now x.table x.key ∙ with_newer_here (newest (items_of old)) item x.table x.key here
         ∙ ap Some

@@ -16,7 +16,7 @@ use Rattle.rk_inv_logs.proofs.apply.Inserted.{dropped_next, unmarked_next}
 use Rattle.rk_inv_logs.proofs.apply.Passing.{Gains, Passing, gains_none, uncalled, view_passed}
 use Rattle.rk_entry.specs.declared.entry.Entry.TheVariants as entries
 
--- an item of entries stands among them
+-- an item of entries is an entry among them
 pub item_entry : (list : List Entry) (item : Held) → Contains (items_of list) item → Contains list (entries.Held item)
 item_entry list item at = let of = flat_from items_in list item at in rw (held_of of.0 item of.2) of.1
 

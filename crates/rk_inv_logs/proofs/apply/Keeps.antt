@@ -15,7 +15,7 @@ pub record IsQuietEntry (base : Base) (journal : List Placed) (entry : Entry) : 
   pub ends : call_end entry ≡ []
   pub known : All (IsKnown base journal) (told_by entry)
 
--- what came into the truth was there, or stood first in the rest, which tells nothing new
+-- what came into the truth was there, or came first in the rest, which adds nothing new
 pub record KeepsRow (base : Base) (journal : List Placed) (truth rest truth' rest' : List Entry) : Type 0 where
   pub more : HasMore truth truth'
   pub head : List Entry

@@ -23,7 +23,7 @@ pub record IsStill (written now : ℕ → Written) (range : Range) (member : Mem
   pub truth : member_truth now range member ≡ member_truth written range member
   pub rest : member_rest now range member ≡ member_rest written range member
 
--- an entry came into the truth of a member, and stood first in its rest
+-- an entry came into the truth of a member, and was the first of its rest
 pub record Takes (entry : Entry) (written now : ℕ → Written) (range : Range) (member : Member) : Type 0 where
   pub truth : IsInserted entry (member_truth written range member) (member_truth now range member)
   pub rest : member_rest written range member ≡ entry ∷ member_rest now range member
@@ -47,8 +47,8 @@ module _ (written : ℕ → Written) (master : ℕ) (entry : Entry) (stands : sl
   after_apart q apart = λ i. record (written q)
       { applied = put_other (λ r. (written r).applied) master ((written master).applied + 1) q apart i }
 
-  -- the entry stands next at the member's master, from its place on: if it bears no mark, it came behind what was applied, and stood before
-  -- the rest
+  -- the entry is next at the member's master, from its place on: if it bears no mark, it came behind what was applied, and was the first
+  -- of the rest
   pub record IsNextOf (range : Range) (member : Member) : Type 0 where
     pub at : member.master ≡ master
     pub behind : member.from ≤ (written member.master).applied
@@ -103,7 +103,7 @@ module _ (written : ℕ → Written) (master : ℕ) (entry : Entry) (stands : sl
         })
   ]
 
-  -- nor does it where it bears a mark, or neither counts nor names anything
+  -- nor does it if it bears a mark, or neither counts nor names anything
   pub still : (range : Range) (member : Member) → (member.master ≡ master → is_marked (written member.master).marks (written member.master).applied ≡ false → (counts range entry ≡ false) × (named_by range entry ≡ [])) → IsStill written after range member
   still range member out = elim (member_cases range member) [
     | inl same ↦ same
@@ -127,7 +127,7 @@ module _ (written : ℕ → Written) (master : ℕ) (entry : Entry) (stands : sl
         ]
   ]
 
-  -- and it is taken where it counts, names nothing, and bears none
+  -- and it is taken if it counts, names nothing, and bears none
   pub takes : (range : Range) (member : Member) → IsNextOf range member → is_marked (written member.master).marks (written member.master).applied ≡ false → counts range entry ≡ true → named_by range entry ≡ [] → Takes entry written after range member
   takes range member next free inside names =
       let w : Written = written member.master in
@@ -150,29 +150,29 @@ has_last (first ∷ second ∷ []) apart = (second, refl)
 has_last _ apart = absurd apart
 
 module _ (base : Base) (written now : ℕ → Written) (range : Range) where
-  -- where each member has what it had, truth and rest are what they were
+  -- if each member has what it had, truth and rest are what they were
   pub truth_still : (lineage : List Member) → AreApart lineage → ((member : Member) → IsStill written now range member) → lineage_truth base now range lineage ≡ lineage_truth base written range lineage
   truth_still lineage apart each = grind arith
 
-  -- what came into the truth of the last one came into that of the row, where the first of two has what it had
+  -- what came into the truth of the last one came into that of the row, if the first of two has what it had
   pub truth_grows : (R : List Entry → List Entry → Type 0) → ((front old new : List Entry) → R old new → R (front ++ old) (front ++ new)) → ((old new : List Entry) → R old new → R (old ++ []) (new ++ []))
       → (lineage : List Member) → AreApart lineage → ((first second : Member) (more : List Member) → lineage ≡ first ∷ second ∷ more → IsStill written now range first)
       → ((last : Member) → last_of lineage ≡ Some last → R (member_truth written range last) (member_truth now range last))
       → R (lineage_truth base written range lineage) (lineage_truth base now range lineage)
   truth_grows R behind before lineage apart firsts grows = grind (arith, member_truth)
 
--- what stood first in the rest of the last one stood first in that of the row
+-- what came first in the rest of the last member came first in that of the row
 pub rest_grows : (written now : ℕ → Written) (range : Range) (lineage : List Member) (last : Member) (head : List Entry) → last_of lineage ≡ Some last → member_rest written range last ≡ head ++ member_rest now range last → lineage_rest written range lineage ≡ head ++ lineage_rest now range lineage
 rest_grows written now range lineage last head is rest =
     lineage_last written range lineage last is ∙ rest ∙ ap (λ (l : List Entry). head ++ l) (sym (lineage_last now range lineage last is))
 
--- own items, with those of an entry where it counts; any other is found
+-- own items, with those of an entry if it counts; any other is found
 pub record HasOwn (range : Range) (entry : Entry) (Found : Held → Type 0) (own now : List Held) : Type 0 where
   pub still : (x : Held) → Contains own x → Contains now x
   pub new : counts range entry ≡ true → (x : Held) → Contains (items_in entry) x → Contains now x
   pub cases : (x : Held) → Contains now x → Contains (items_in entry) x ⊎ Contains own x ⊎ Found x
 
--- the item of an entry stands behind a place, if the entry counts
+-- the item of an entry is behind a place, if the entry counts
 abbrev pub StandsBehind : Range → Entry → ℕ → ℕ → Type 0
 StandsBehind range entry from place = counts range entry ≡ true → (x : Held) → Contains (items_in entry) x → from ≤ place
 
@@ -182,7 +182,7 @@ HasApplied range from w entry records = HasOwn range entry (IsFound records) (it
     (items_of (applied_from range from (record w { applied = w.applied + 1 })))
 
 module _ (range : Range) (entry : Entry) (Found : Held → Type 0) where
-  -- the same items, where they have that of the entry
+  -- the same items, if they have that of the entry
   pub own_same : (own : List Held) → (counts range entry ≡ true → (x : Held) → Contains (items_in entry) x → Contains own x) → HasOwn range entry Found own own
   own_same own has = record { still = λ x at. at; new = has; cases = λ x at. inr (inl at) }
 

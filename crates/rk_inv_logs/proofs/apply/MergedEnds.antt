@@ -69,7 +69,7 @@ pub record IsTold (list : List Ended) (client seq : ℕ) : Type 0 where
 told_behind : (first : Ended) (list : List Ended) (client seq : ℕ) → IsTold list client seq → IsTold (first ∷ list) client seq
 told_behind first list client seq told = grind (arith, behind_stands)
 
--- the last end of a client was there, or is told
+-- the last end of a client was there, or is that of an end in the list
 comes_from : (c : Completions) (list : List Ended) (client : ℕ) (last : Completion) → get (completions_from c list) client ≡ Some last → (get c client ≡ Some last) ⊎ IsTold list client last.seq
 comes_from c [] client last is = inl is
 comes_from c (end ∷ list) client last is =
@@ -99,7 +99,7 @@ module _ (all : List Ended) (g : Ended) (free : list_any (is_outrun_by g) all �
   same_itself : is_same_call g g ≡ true
   same_itself = and_from (eqb g.client g.client) (eqb g.seq g.seq) (eq-eqb g.client g.client refl) (eq-eqb g.seq g.seq refl)
 
-  -- where no other end of the call stands, its first one has its place
+  -- if no other end of the call is there, its first one has its place
   placed_here : (later seen ends : List Ended) → list_any (is_same_call g) later ≡ false → list_any (is_same_call g) seen ≡ false → Contains ends g → IsTold (placed_ends all later seen ends) g.client g.seq
   placed_here later seen [] none unseen at = absurd (none_stands g at)
   placed_here later seen (first ∷ ends) none unseen at = elim (cases_Bool (is_same_call g first)) [
@@ -181,7 +181,7 @@ placed_somewhere all (ends ∷ members) g free at =
 
 -- ---- what was merged
 
--- all that members tell, told member by member
+-- all that members record, member by member
 pub told_each : (members : List (List Entry)) → flat_map (λ (ends : List Ended). ends) (map told members) ≡ flat_map told members
 told_each [] = refl
 told_each (first ∷ members) = ap (λ (l : List Ended). told first ++ l) (told_each members)
@@ -223,7 +223,7 @@ module _ (members : List (List Entry)) (client seq : ℕ) (last : Completion) (f
         }
   ]
 
--- of each end that a member tells, what was merged has reached the seq
+-- for each end that a member records, what was merged has reached the seq
 pub merged_reaches : (members : List (List Entry)) (end : Ended) → Contains (flat_map told members) end → HasReached (completions_from [] (merged_ends members)) end.client end.seq
 merged_reaches members end at =
     let has = reached_told [] (flat_map told members) end at in

@@ -27,9 +27,9 @@ use Rattle.rk_inv_logs.proofs.apply.Applies.{of_applied, of_target, ordered_now,
 use Rattle.rk_inv_logs.proofs.apply.ItemPut.{bare_with, table_apart}
 use Rattle.rk_entry.specs.declared.entry.Entry.TheVariants as entries
 
--- ---- what a row tells
+-- ---- what a row records
 
--- what more entries tell of a key
+-- what more entries record of a key
 pub tell_more : (range : Range) (journal : List Placed) (old now : List Entry) → HasMore old now → TellAll range journal old → TellAll range journal now
 tell_more range journal old now more = tell_then range journal old now (λ table key.
     told_among told_by (of_key table key old) (of_key table key now) (more_still (more_kept more (tells_of table key))))
@@ -40,7 +40,7 @@ low_more range map old now more low table key within =
     let grows = floor_among (of_key table key old) (of_key table key now) (more_still (more_kept more test)) in
     omega (arith, low table key within, grows)
 
--- where what came into its truth tells nothing new, a row tells its history still
+-- if what came into its truth adds nothing new, a row still records its history
 module _ (base : Base) (range : Range) (truth rest truth' rest' : List Entry) (journal : List Placed) (asked : ℕ → Option LastCall) (keeps : KeepsRow base journal truth rest truth' rest') (was : TellHistory base range truth rest journal asked) where
   pub history_keeps : TellHistory base range truth' rest' journal asked
   history_keeps =
@@ -79,7 +79,7 @@ module _ (base : Base) (range : Range) (truth rest truth' rest' : List Entry) (j
 
 -- ---- what is asked
 
--- what came into the truth of the last member of a row was there, or stood first in its rest, which tells nothing new
+-- what came into the truth of the last member of a row was there, or came first in its rest, which adds nothing new
 pub record Gains (v : View) (now : ℕ → Written) (row : Row) (last : Member) : Type 0 where
   pub more : HasMore (member_truth v.written row.range last) (member_truth now row.range last)
   pub head : List Entry
@@ -103,7 +103,7 @@ pub record IsCopied (v : View) (master : ℕ) (entry : Entry) : Type 0 where
   pub merged : has_merged (v.handovers master row.tablet).role ≡ true
   pub behind : own_place (v.handovers master row.tablet).role ≤ (v.written master).applied
 
--- no call waits at a place, where none may
+-- no call waits at a place if none may
 pub none_found : (v : View) (master : ℕ) → SoundView v → v.live master ≡ true
     → ((call : Call) → Waits v.rows (v.handovers master) (v.written master) master (v.written master).applied call → ⊥)
     → get (v.calls master) (v.written master).applied ≡ None
@@ -118,7 +118,7 @@ pub uncalled : (v : View) (master : ℕ) (entry : Entry) → SoundView v → May
 uncalled v master entry sound may none = none_found v master sound may.held.lives (λ call waits.
     let same : waits.entry ≡ entry = cc (sym waits.stands ∙ may.stands) in none call (subst (IsEntryOf call) same waits.own))
 
--- an entry with which no call ends may be applied, in a sound view, and tells nothing new of any row
+-- an entry with which no call ends may be applied, in a sound view, and adds nothing new to any row
 pub record Passing (v : View) : Type 0 where
   pub master : ℕ
   pub entry : Entry
@@ -126,7 +126,7 @@ pub record Passing (v : View) : Type 0 where
   pub held : MayApply v master
   pub stands : slice_get (v.written master).entries (v.written master).applied ≡ Some entry
   pub none : get (v.calls master) (v.written master).applied ≡ None
-  -- of each row the first of two members has what it had, an only one the items, and the last one tells nothing new
+  -- of each row the first of two members has what it had, an only one the items, and the last one adds nothing new
   pub firsts :
       (row : Row) → Contains v.rows row → (first second : Member) (more : List Member) → lineage_of row.phase ≡ first ∷ second ∷ more
       → IsStill v.written (with_one_applied v.written master) row.range first
@@ -149,7 +149,7 @@ pub record Passing (v : View) : Type 0 where
 abbrev Adds : View → Row → List Entry → List Entry → List Entry → Type 0
 Adds v row head old now = (more : HasMore old now) × ((e : Entry) → Contains more.block e → Contains (truths v row) e ⊎ Contains head e)
 
--- so truth and rest of each row tell what they told
+-- so truth and rest of each row record what they recorded
 pub row_keeps : (v : View) (p : Passing v) (row : Row) → Contains v.rows row
     → KeepsRow v.base v.journal (truths v row) (rests v row) (truths (entry_applied v p.master p.entry) row) (rests (entry_applied v p.master p.entry) row)
 row_keeps v p row has =
@@ -191,7 +191,7 @@ module _ (v : View) (p : Passing v) where
 
   -- ---- the item, if there is one
 
-  -- a statement of the records of the master holds where the item is not of what they are for
+  -- a statement of the records of the master holds if the item is not of what they are for
   abbrev IsBeside : Range → Type 0
   IsBeside range = (items_in p.entry ≡ []) ⊎ (counts range p.entry ≡ false)
 
@@ -242,7 +242,7 @@ module _ (v : View) (p : Passing v) where
 
   -- ---- targets
 
-  -- an item of the row stands behind the target's place: it has none
+  -- an item of the row would be behind the target's place: it has none
   target_behind : (other : Row) → Contains v.rows other → (last : Member) → last.master ≡ p.master → is_granted (v.handovers last.master other.tablet).role ≡ true → (from : ℕ) → StandsBehind other.range p.entry from (v.written last.master).applied
   target_behind other has last at granted from counted x its = grind (arith, beside_or, none_stands, false≢true, is_granted)
 
@@ -359,7 +359,7 @@ module _ (v : View) (master : ℕ) (carried : Carried) (sound : SoundView v) (ma
     | inr taken ↦ same_items entry (member_truth v.written range member) (member_truth after range member) taken.truth refl
   ]
 
-  -- where the last one takes it, its ends are known, since it stands first in the rest of the row
+  -- if the last one takes it, the ends of the entry are known, since it is first in the rest of the row
   last_gains : (row : Row) → Contains v.rows row → (last : Member) → last_of (lineage_of row.phase) ≡ Some last → Gains v (with_one_applied v.written master) row last
   last_gains row has last is = elim (either row.range last) [
     | inl same ↦ gains_none v after row last same

@@ -15,7 +15,7 @@ use Rattle.rk_inv_tablets.proofs.Words.{All_insert}
 use Rattle.rk_inv_logs.specs.made.Made.{waits, waits_for}
 use Rattle.rk_entry.specs.declared.entry.Entry.TheVariants as entries
 
--- staged entries tell the ends of their calls, or what is known
+-- staged entries record the ends of their calls, or what is known
 pub told_staged : (base : Base) (journal : List Placed) (asked : ℕ → Option LastCall) (list : List Entry) → All (IsStaged base asked journal) list → (end : Ended) → Contains (told list) end → Contains (call_ends list) end ⊎ IsKnown base journal end
 told_staged base journal asked list staged end at =
     let by = flat_from told_by list end at in
@@ -75,7 +75,7 @@ waits_alike asked journal a b client seq = λ i. waits_for journal (client i) (s
 pub waits_no_more : (journal more : List Placed) (client seq : ℕ) (asked : Option LastCall) → waits_for journal client seq asked ≡ false → waits_for (journal ++ more) client seq asked ≡ false
 waits_no_more journal more client seq asked is = grind (arith, eqb, list_any-append, is_of_mutation, has_record, false≢true)
 
--- an end makes a record where its call waits for one, and else none
+-- an end makes a record if its call waits for one, and else none
 pub makes_none : (journal : List Placed) (end : Ended) (asked : Option LastCall) → waits_for journal end.client end.seq asked ≡ false → made_by journal end asked ≡ []
 makes_none journal end None is = refl
 makes_none journal end (Some last) is = rw is refl
@@ -131,11 +131,11 @@ module _ (base : Base) (lane : ℕ) (asked : ℕ → Option LastCall) (journal :
   known_low end last is known = elim (known_cases end last is known)
       [ inl before ↦ omega (arith, before) | inr same ↦ let seq : end.seq ≡ last.call.seq = same.0 in omega (arith, seq) ]
 
-  -- where the last call waits for its record, the end is of an earlier one
+  -- if the last call waits for its record, the end is of an earlier one
   pub known_early : (end : Ended) (seq : ℕ) → IsWaiting journal end.client seq (asked end.client) → IsKnown base journal end → end.seq < seq
   known_early end seq w known = grind (arith, known_cases, false≢true, has_record)
 
-  -- so one that is known does not wait
+  -- so an end that is known does not wait
   pub known_waits_not : (end : Ended) → IsKnown base journal end → waits asked journal end ≡ false
   known_waits_not end known =
       false_from_ne_true (waits asked journal end) (λ is.
@@ -147,12 +147,12 @@ module _ (base : Base) (lane : ℕ) (asked : ℕ → Option LastCall) (journal :
   none_recorded client seq w mutates placed stands own its =
       grind (arith, was_asked, false≢true, is_mutation, list_any_at, is_of_mutation, and_from, eq-eqb)
 
--- an end has gone where another one of its client has come
+-- an end of a client has gone, and another one of the client has come
 pub record IsReplaced (now : List Ended) (end other : Ended) : Type 0 where
   pub client : other.client ≡ end.client
   pub there : Contains now end
 
--- what is found stands there
+-- what is found is there
 pub found_end : (c : Completions) (client : ℕ) (last : Completion) → get c client ≡ Some last → Contains (ends_of c) (ended_of (client, last))
 found_end [] client last is = absurd (cc is)
 found_end (e ∷ c) client last is = go (eq_by_cmp nat_cmp client e.0) refl (found_end c client last) is
@@ -250,7 +250,7 @@ module _ (c : Completions) (end : Ended) where
           (λ (same : ended_of (end.client, last) ≡ end). subst (Contains (ends_of c)) same at)
           (latest (ended_of (end.client, last)) at refl)
 
--- each last end was there, or is one that was noted
+-- each last end was there, or was noted
 pub noted_ends : (c : Completions) (list : List Ended) (end : Ended) → Contains (ends_of (completions_from c list)) end → Contains (ends_of c) end ⊎ Contains list end
 noted_ends c [] end at = inl at
 noted_ends c (first ∷ list) end at = elim (noted_ends (noted c first) list end at) [

@@ -63,13 +63,13 @@ one_call a b is = grind (arith, and_parts, eqb, eqb-true)
 
 -- ---- the places of ends at one member
 
--- where more stands behind ends, it has its places with them seen
+-- ends that follow others have their places with these seen
 pub placed_append : (all later seen first second : List Ended) → placed_ends all later seen (first ++ second) ≡ placed_ends all later seen first ++ placed_ends all later (seen ++ first) second
 placed_append all later seen [] second = ap (λ (l : List Ended). placed_ends all later l second) (sym (append_nil seen))
 placed_append all later seen (end ∷ first) second =
     grind (arith, placed_ends, append_assoc, cases_Bool, is_placed, (placed_append all later (seen ++ end ∷ []) first second))
 
--- what is placed stands there, and is outrun by none
+-- what is placed is there, and is outrun by none
 pub record IsPlacedOf (all ends : List Ended) (end : Ended) : Type 0 where
   pub stands : Contains ends end
   pub free : list_any (is_outrun_by end) all ≡ false
@@ -113,7 +113,7 @@ by_place_stands all (ends ∷ members) end at =
 abbrev flat : List (List Ended) → List Ended
 flat members = flat_map (λ ends. ends) members
 
--- nothing is placed at members that tell nothing
+-- nothing is placed at members that record nothing
 pub nothing_placed : (all : List Ended) (members : List (List Ended)) → All (λ ends. ends ≡ []) members → ends_by_place all members ≡ []
 nothing_placed all [] none = refl
 nothing_placed all (ends ∷ members) none = ap (λ (l : List Ended). placed_ends all (flat members) [] l ++ ends_by_place all members)
@@ -128,12 +128,12 @@ nothing_flat (ends ∷ members) none = ap (λ (l : List Ended). l ++ flat member
 -- ---- ends that wait
 
 module _ (waits : Ended → Bool) (alike : (a b : Ended) → a.client ≡ b.client → a.seq ≡ b.seq → waits a ≡ waits b) (all : List Ended) where
-  -- one that does not wait is left out, whether it is placed or not
+  -- an end that does not wait is left out, whether it is placed or not
   left_out : (end : Ended) (list : List Ended) (placed : Bool) → waits end ≡ false → filter waits (cond placed (end ∷ list) list) ≡ filter waits list
   left_out end list true is = filter_left_out waits end list is
   left_out end list false is = refl
 
-  -- none is placed that stands at a later member, or was seen
+  -- no end that waits is placed if it is at a later member, or was seen
   pub none_placed : (later seen ends : List Ended) → All (λ end. waits end ≡ true → Contains (later ++ seen) end) ends → filter waits (placed_ends all later seen ends) ≡ []
   none_placed later seen [] there = refl
   none_placed later seen (end ∷ ends) there =
@@ -160,7 +160,7 @@ module _ (waits : Ended → Bool) (alike : (a b : Ended) → a.client ≡ b.clie
       and_none true = refl
       and_none false = refl
 
-  -- one that none outruns is placed, where none of its call stands at a later member or was seen
+  -- an end that none outruns is placed if none of its call is at a later member or was seen
   placed_now : (later seen : List Ended) (end : Ended) → list_any (is_outrun_by end) all ≡ false → ((x : Ended) → Contains (later ++ seen) x → AreOfOneCall end x → ⊥) → is_placed all later seen end ≡ true
   placed_now later seen end free unseen =
       let unlike : list_any (is_same_call end) (later ++ seen) ≡ false =
@@ -173,7 +173,7 @@ module _ (waits : Ended → Bool) (alike : (a b : Ended) → a.client ≡ b.clie
   abbrev pub IsNew : List Ended → Ended → Type 0
   IsNew list end = waits end ≡ true → (x : Ended) → Contains list x → AreOfOneCall end x → ⊥
 
-  -- with one more that is seen it is so still, where none of the ends that wait is of that call
+  -- with one more that is seen it is so still, if none of the ends that wait is of that call
   new_still : (later seen : List Ended) (end : Ended) (ends : List Ended) → ((e : Ended) → Contains ends e → waits e ≡ true → AreOfOneCall e end → ⊥) → All (IsNew (later ++ seen)) ends → All (IsNew (later ++ (seen ++ end ∷ []))) ends
   new_still later seen end ends apart unseen = all_by (IsNew (later ++ (seen ++ end ∷ []))) ends
       (λ e at is x there same. elim (Contains-push_cases (later ++ seen) end x (rw (append_assoc later seen (end ∷ [])) there)) [
@@ -181,7 +181,7 @@ module _ (waits : Ended → Bool) (alike : (a b : Ended) → a.client ≡ b.clie
         | inr last ↦ apart e at is (rw last same)
       ])
 
-  -- each is placed that none outruns, where none of its call stands at a later member, was seen or stands before it
+  -- each is placed that none outruns, if none of its call is at a later member, was seen or comes before it
   pub all_placed : (later seen ends : List Ended) → All (λ end. waits end ≡ true → list_any (is_outrun_by end) all ≡ false) ends → All (IsNew (later ++ seen)) ends → AllPairs Differ (filter waits ends)
       → filter waits (placed_ends all later seen ends) ≡ filter waits ends
   all_placed later seen [] free unseen one = refl
@@ -211,7 +211,7 @@ module _ (waits : Ended → Bool) (alike : (a b : Ended) → a.client ≡ b.clie
 
   -- ---- several members
 
-  -- none that waits is placed at members before others that tell it
+  -- no end that waits is placed at members before others that record it
   pub none_before : (before after : List (List Ended)) → All (All (λ end. waits end ≡ true → Contains (flat_map (λ ends. ends) after) end)) before
       → filter waits (ends_by_place all (before ++ after)) ≡ filter waits (ends_by_place all after)
   none_before [] after there = refl
@@ -412,7 +412,7 @@ module _ (base : Base) (asked : ℕ → Option LastCall) (journal : List Placed)
 abbrev AgreeOn : Range → Map → Map → Type 0
 AgreeOn range m n = (table : ℕ) (key : List ℕ) → has_key range table key ≡ true → m table key ≡ n table key
 
--- records of it are legal from the one where they are from the other
+-- records of a range are legal from the one map if they are from the other
 legal_on : (range : Range) (m n : Map) (list : List Placed) → AgreeOn range m n → All (λ placed. is_record_in range placed ≡ true) list → IsLegal m list → IsLegal n list
 legal_on range m n [] agree all legal = tt
 legal_on range m n (placed ∷ list) agree all legal = (
@@ -467,7 +467,7 @@ module _ (base : Base) (range : Range) (journal made : List Placed) (asked : ℕ
         one = was.one;
       }
 
-  -- so truth and rest of the range tell all of it still
+  -- so truth and rest of the range still record all of it
   pub history_beside : (truth rest : List Entry) → All (λ entry. counts range entry ≡ true) rest → TellHistory base range truth rest journal asked → TellHistory base range truth rest (journal ++ made) asked
   history_beside truth rest counted was = record {
     leaves = record {

@@ -32,7 +32,7 @@ use Rattle.rk_entry.specs.declared.entry.Entry.TheVariants as entries
 
 -- ---- lists
 
--- what a function makes that passes is made of what passes, where it changes no answer of the test
+-- what a function makes that passes is made of what passes, if it changes no answer of the test
 filter_mapped : {X : Type 0} (p : X → Bool) (f : X → X) (xs : List X) → All (λ x. p (f x) ≡ p x) xs → filter p (map f xs) ≡ map f (filter p xs)
 filter_mapped p f [] same = refl
 filter_mapped {X} p f (x ∷ xs) same =
@@ -43,7 +43,7 @@ filter_mapped {X} p f (x ∷ xs) same =
       | inr is ↦ filter_left_out p (f x) (map f xs) (here ∙ is) ∙ later ∙ ap (map f) (sym (filter_left_out p x xs is))
     ]
 
--- what the entries of members tell, member by member
+-- what the entries of members record, member by member
 told_all_of : (members : List (List Entry)) → told (all_of members) ≡ flat_map told members
 told_all_of [] = refl
 told_all_of (first ∷ members) = grind (arith, flat_map-append, told_by, told, (told_all_of members))
@@ -100,7 +100,7 @@ module _ (r : Reads) where
   entry_waits (entries.Carried carried) staged = grind (arith, none_wait, waits_not, carried.ends)
   entry_waits (entries.Joined joined) staged = refl
 
-  -- of what staged entries tell just the ends of their calls wait
+  -- of what staged entries record just the ends of their calls wait
   pub staged_wait : (part : List Entry) → All (IsStaged r.base r.asked r.journal) part → filter (waits r.asked r.journal) (told part) ≡ call_ends part
   staged_wait [] staged = refl
   staged_wait (entry ∷ part) staged = filter-append (waits r.asked r.journal) (told_by entry) (told part)
@@ -113,11 +113,11 @@ module _ (r : Reads) where
 
   -- ---- what was read
 
-  -- the ends that members tell, but for those of the part
+  -- the ends that members record, but for those of the part
   abbrev middle : List Ended
   middle = r.order.first ++ told r.part ++ r.order.behind
 
-  -- all that members tell is told by truth and part
+  -- all that members record is recorded by truth and part
   told_in : (end : Ended) → Contains (told (r.truth ++ r.part)) end → Contains (told r.truth) end ⊎ Contains (told r.part) end
   told_in end at = Contains-append_cases (told r.truth) (told r.part) end
       (subst (λ (l : List Ended). Contains l end) (flat_map-append told_by r.truth r.part) at)
@@ -150,7 +150,7 @@ module _ (r : Reads) where
       (Contains-append_cases (flat_map (λ ends. ends) r.order.before) (middle ++ after) end
       (subst (λ (l : List Ended). Contains l end) (sym (told_each r.members) ∙ flat_split) at))
 
-  -- all that the part tells they tell
+  -- all that the part records, the members record
   pub part_told : (end : Ended) → Contains (told r.part) end → Contains all end
   part_told end at =
       let after : List Ended = flat_map (λ ends. ends) r.order.after in
@@ -159,7 +159,7 @@ module _ (r : Reads) where
       (Contains-append_left middle after end
       (Contains-append_left (r.order.first ++ told r.part) r.order.behind end (Contains-append_right r.order.first (told r.part) end at))))
 
-  -- one that waits is told by the part, and is that of a call there
+  -- an end that waits is recorded by the part, and is that of a call there
   truth_waits_not : (end : Ended) → Contains (told r.truth) end → waiting end ≡ true → ⊥
   truth_waits_not end at is = false≢true (sym (waits_not end (All-contains (IsKnown r.base r.journal) (told r.truth) end r.known at)) ∙ is)
 
@@ -176,7 +176,7 @@ module _ (r : Reads) where
   before_last : (end : Ended) (last : LastCall) → r.asked end.client ≡ Some last → IsKnown r.base r.journal end → end.seq ≤ last.call.seq
   before_last = known_low r.base r.lane r.asked r.journal r.last_calls r.recorded
 
-  -- none that members tell is of a later call than the last of its client
+  -- no end that members record is of a later call than the last of its client
   low : (end : Ended) (last : LastCall) → r.asked end.client ≡ Some last → Contains all end → end.seq ≤ last.call.seq
   low end last is at = elim (all_told end at) [
     | inl old ↦ before_last end last is (All-contains (IsKnown r.base r.journal) (told r.truth) end r.known old)
@@ -190,7 +190,7 @@ module _ (r : Reads) where
     ]
   ]
 
-  -- so none outruns one that waits
+  -- so none outruns an end that waits
   pub outrun_none : (end : Ended) → waiting end ≡ true → list_any (is_outrun_by end) all ≡ false
   outrun_none end is =
       let w = waiting_parts r.journal end.client end.seq (r.asked end.client) is in
@@ -257,7 +257,7 @@ module _ (r : Reads) where
 
   -- ---- what is merged
 
-  -- the end that counts for one that was told
+  -- the end that counts for an end that was recorded
   abbrev as_told : Ended → Ended
   as_told end = first_told end (get (completions_from [] all) end.client)
 
@@ -267,12 +267,12 @@ module _ (r : Reads) where
   in_calls : (end : Ended) → Contains all end → waiting end ≡ true → Contains (call_ends r.part) end
   in_calls end at is = calls_end end (in_part end (all_told end at) is) is
 
-  -- an end is of the same call as another one, and is told
+  -- an end is of the same call as another one, and is recorded
   record CountsFor (end counted : Ended) : Type 0 where
     same : AreOfOneCall counted end
     stands : Contains all counted
 
-  -- so is the end that counts for one that has its place
+  -- so is the end that counts for an end that has its place
   counts_for : (end : Ended) → IsPlacedOf all all end → CountsFor end (as_told end)
   counts_for end placed =
       let has : HasReached (completions_from [] all) end.client end.seq = reached_told [] all end placed.stands in
@@ -297,7 +297,7 @@ module _ (r : Reads) where
       let found = by_place_stands all (map told r.members) end at in
       record { stands = rw (told_each r.members) at found.stands; free = found.free }
 
-  -- what is merged is told
+  -- what is merged was recorded
   pub merged_told : (end : Ended) → Contains (merged_ends r.members) end → Contains all end
   merged_told end at =
       let found = mapped_from as_told places end at in
@@ -379,7 +379,7 @@ module _ (r : Reads) where
 
     -- ---- the ends
 
-    -- each that is told is known then
+    -- each end that is recorded is known then
     pub known_now : (end : Ended) → Contains all end → IsKnown r.base (r.journal ++ made) end
     known_now end at = elim (all_told end at) [
       | inl old ↦ known_still r.journal made r.base end (All-contains (IsKnown r.base r.journal) (told r.truth) end r.known old)
@@ -411,7 +411,7 @@ module _ (r : Reads) where
     lasts_known = all_by (IsKnown r.base (r.journal ++ made)) (ends_of last_of_each)
         (λ end at. known_now end (merged_told end (last_ends (merged_ends r.members) end at)))
 
-    -- what an end that is told reaches, the last end of its client does
+    -- what an end that is recorded reaches, the last end of its client reaches too
     module _ (once : AreOnce r.journal) where
       after_now : All (λ placed. IsAfterStart r.base placed.call) (r.journal ++ made)
       after_now = All-append (λ (placed : Placed). IsAfterStart r.base placed.call) r.journal made r.after_start

@@ -31,7 +31,7 @@ module _ (range : Range) (to : ℕ) (own : List Entry) where
   abbrev pub gather_of : List Member → List Gathered → Gather
   gather_of lineage members = record { range = range; own = to; lineage = lineage; members = members }
 
-  -- of the master itself its own entries count, of another one what was read of it; where the master is of no lineage, its own ones stand
+  -- of the master itself its own entries count, of another one what was read of it; if the master is of no lineage, its own ones come
   -- last
   pub only_own : (m : Member) (members : List Gathered) → m.master ≡ to → by_member (gather_of (m ∷ []) members) own ≡ own ∷ []
   only_own m members same = rw (eq-eqb m.master to same) refl
@@ -91,7 +91,7 @@ module _ (to : ℕ) where
 
 -- ---- side segments
 
--- where no Joined waits, what all entries name the applied ones name
+-- if no Joined waits, what all entries name the applied ones name
 pub sides_applied : (range : Range) (from : ℕ) (w : Written) → joined_from range (max from w.applied) w.entries ≡ [] → (e : Entry) → Contains (side_part range from w w.entries) e → Contains (side_part range from w (applied_entries w)) e
 sides_applied range from w none e at =
     let free : List Entry = unmarked_from w.marks from w.entries in
@@ -155,7 +155,7 @@ module _ (v : View) (t : Taken v) (gathered : Gathered) (there : Contains (v.gat
       ∙ ap (λ (l : List Entry). (l ++ marked) ++ sides) (free_parts t.row.range m.from w main (side_read gathered) log)
       ∙ append_assoc (sure ++ part) marked sides ∙ append_assoc sure part (marked ++ sides)
 
-  -- a marked entry tells nothing that is not told by others, where it tells nothing that is not told by these and by the member
+  -- a marked entry records nothing that others do not, if it records nothing that these and the member do not
   marked_told : (others front : List Entry) → AreAmong (member_marked v.written t.row.range m) (front ++ member_material v.written t.row.range m) → AreAmong front others → AreAmong (free_part t.row.range m.from w main) others
       → AreAmong (side_part t.row.range m.from w w.entries) others → AreAmong marked others
   marked_told others front tells first second third = (
@@ -176,7 +176,7 @@ module _ (v : View) (t : Taken v) (gathered : Gathered) (there : Contains (v.gat
         | inr behind ↦ parts e behind
       ]
 
-  -- of the last member a first part of the rest was read, where the lists before tell nothing new, and have all else of the truth
+  -- of the last member a first part of the rest was read, if the lists before add nothing new, and have all else of the truth
   pub last_back : (truth front : List Entry) (before after : List (List Entry))
       → AreAmong (member_marked v.written t.row.range gathered.member) (front ++ member_material v.written t.row.range gathered.member)
       → AreAmong front (truth ++ part)
@@ -212,7 +212,7 @@ module _ (v : View) (t : Taken v) (gathered : Gathered) (there : Contains (v.gat
       (read_back truth (member_rest v.written t.row.range m) before sure part (marked ++ sides) left.more after left.parts all_has in_sure
       earlier (both_told marked sides (truth ++ part) (marked_told (truth ++ part) front tells front_in free_in sides_in) of_sides) none)
 
-  -- what was read of a member whose all is told tells nothing new, where its marked pieces do not
+  -- what was read of a member adds nothing to entries that have all of the member, if its marked pieces add nothing
   pub first_told : (others : List Entry) → AreAmong marked others → ((e : Entry) → Contains (member_material v.written t.row.range gathered.member) e → Contains others e) → AreAmong (counted_of t.row.range gathered) others
   first_told others tells has =
       let free : List Entry = free_part t.row.range m.from w main in
@@ -229,7 +229,7 @@ module _ (v : View) (t : Taken v) (gathered : Gathered) (there : Contains (v.gat
   pub truth_read : (e : Entry) → Contains (member_truth v.written t.row.range gathered.member) e → Contains (counted_of t.row.range gathered) e
   truth_read e at = truth_in t.row.range m.from w main (side_read gathered) log e at
 
--- a rebuild of a lineage, where it may be taken
+-- a rebuild of a lineage, if it may be taken
 abbrev taken_by : (v : View) (row : Row) (to place : ℕ) (ends : List Ended) → SoundView v → AreReadable v.logs v.written → row.range.first ≤ row.range.last → All (λ gathered. length gathered.main ≤ LAST_MAIN_SEGMENT) (v.gathers to row.tablet).members → (lineage : List Member) → MayTakeRebuilt v row lineage to place ends → Taken v
 taken_by v row to place ends sound readable some few lineage may = record {
   row = row;
@@ -266,7 +266,7 @@ module _ (v : View) (row : Row) (a b : Gathered) (to place : ℕ) (ends : List E
   abbrev own_of_first : List Entry
   own_of_first = member_material v.written row.range a.member
 
-  -- an unmarked entry that tells more of what was given up than the entries before it and the first member's was read
+  -- an unmarked entry that records more of what was given up than the entries before it and the first member's was read
   more_read : (n : ℕ) (entry : Entry) → b.member.from ≤ n → slice_get last_written.entries n ≡ Some entry → is_marked last_written.marks n ≡ false → counts row.range entry ≡ true → TellsMore given (own_of_first ++ first_counted row.range b.member.from last_written n) entry → n < length read_of_last
   more_read n entry behind stands free inside tells =
       let none : EntryEnd = record { segment = 0; offset = 0 } in
@@ -319,7 +319,7 @@ module _ (v : View) (row : Row) (a b : Gathered) (to place : ℕ) (ends : List E
       first_in f = stand_among f (first_counted row.range b.member.from last_written (length read_of_last)) others
           (λ entry at. frees entry (subst (λ (l : List Entry). Contains l entry) first_ones at))
 
--- nothing tells no more than anything
+-- an empty list records no more than any other
 none_told : (others : List Entry) → AreAmong [] others
 none_told others = (λ item at. absurd (omega (arith, at.1)), λ end at. absurd (omega (arith, at.1)))
 
@@ -369,7 +369,7 @@ module _ (v : View) (row : Row) (to place : ℕ) (ends : List Ended) (sound : So
   own_none lineage may outside = subst (λ (n : ℕ). member_material v.written row.range (member_at to n) ≡ [])
       (own_is v (taken lineage may)) ((rebuilder v (taken lineage may)).outside outside)
 
-  -- where its own entries stand last, all of them are of the truth
+  -- if its own entries come last, all of them are of the truth
   own_back : (lineage : List Member) → (may : MayTakeRebuilt v row lineage to place ends) → (truth : List Entry) (before : List (List Entry))
       → ((e : Entry) → Contains (member_truth v.written row.range own_member) e → Contains truth e)
       → ((e : Entry) → Contains truth e → Contains (all_of before) e ⊎ Contains (member_truth v.written row.range own_member) e)
@@ -451,7 +451,7 @@ module _ (v : View) (row : Row) (to place : ℕ) (ends : List Ended) (sound : So
         ]
       ]
 
-  -- so it was read, where what was read has all that is applied of the first
+  -- so it was read, if what was read has all that is applied of the first
   read_or_last : (first last : Member) (read : List Entry) → ((e : Entry) → Contains (member_truth v.written row.range first) e → Contains read e) → (e : Entry)
       → Contains (lineage_truth v.base v.written row.range (first ∷ last ∷ [])) e → Contains (all_of (read ∷ [])) e ⊎ Contains (member_truth v.written row.range last) e
   read_or_last first last read has e at =
@@ -492,7 +492,7 @@ module _ (v : View) (row : Row) (to place : ℕ) (ends : List Ended) (sound : So
       (All-cons (λ list. AreAmong list (truth ++ read)) own [] of_own (All-nil (λ list. AreAmong list (truth ++ read))))
       (All-nil (λ list. list ≡ [])))
 
-  -- the master is the last one: what the first has in marked pieces is told by its own entries, and by those of the master
+  -- the master is the last one: what the first has in marked pieces is recorded by its own entries, and by those of the master
   last_own_told : (g : Gathered) → (there : Contains (v.gathers to row.tablet).members g) → (may : MayTakeRebuilt v row (g.member ∷ member_at to place ∷ []) to place ends) → AreAmong (counted_of row.range g) (lineage_truth v.base v.written row.range (g.member ∷ own_member ∷ []) ++ [])
   last_own_told g there may =
       let lineage : List Member = g.member ∷ own_member ∷ [] in

@@ -20,7 +20,7 @@ IsSame x y = (x ≡ y) ⊎ (x ≡ y → ⊥)
 abbrev pub AreTold : Type 0 → Type 0
 AreTold X = (x y : X) → IsSame x y
 
--- things that are the same where two parts are
+-- things of two parts are the same if both parts are, and else differ
 both : {X Y : Type 0} (x y : X) (a b : Y) → IsSame x y → IsSame a b → ((x ≡ y) × (a ≡ b)) ⊎ (((x ≡ y) × (a ≡ b)) → ⊥)
 both x y a b holds also = grind arith
 
@@ -71,7 +71,7 @@ items_told a b = go (numbers_told a.table b.table) (numbers_told a.version b.ver
     go (inl t) (inl v) (inl c) (inl s) (inl k) (inl w) =
         inl (λ i. record { table = t i; version = v i; client = c i; seq = s i; key = k i; value = w i })
 
--- whether a thing stands in a list
+-- whether a thing is in a list
 pub stands_or_not : {X : Type 0} → AreTold X → (xs : List X) (x : X) → Contains xs x ⊎ (Contains xs x → ⊥)
 stands_or_not told [] x = inr (λ at. omega (arith, at.1))
 stands_or_not {X} told (y ∷ xs) x = go (told y x) (stands_or_not told xs x)
@@ -83,14 +83,14 @@ stands_or_not {X} told (y ∷ xs) x = go (told y x) (stands_or_not told xs x)
 
 -- ---- of one kind
 
--- what these tell of a kind those tell
+-- what these record of a kind, those record
 abbrev pub Among : {X : Type 0} → (Entry → List X) → List Entry → List Entry → Type 0
 Among {X} f these those = (x : X) → Contains (flat_map f these) x → Contains (flat_map f those) x
 
 pub stand_among : {X : Type 0} (f : Entry → List X) (these those : List Entry) → ((entry : Entry) → Contains these entry → Contains those entry) → Among f these those
 stand_among f these those has x at = let of = flat_from f these x at in flat_of f those of.0 x (has of.0 of.1) of.2
 
--- where each entry tells no more, all do not
+-- if no entry records more, all together do not
 pub each_among : {X : Type 0} (f : Entry → List X) (these those : List Entry) → ((entry : Entry) → Contains these entry → (x : X) → Contains (f entry) x → Contains (flat_map f those) x) → Among f these those
 each_among f these those each x at = let of = flat_from f these x at in each of.0 of.1 x of.2
 
@@ -101,7 +101,7 @@ both_among f a b those first second =
       | inr there ↦ second x (flat_of f b entry x there its)
     ])
 
--- of marked entries, where all marked ones tell no more than some entries and those of a member, the free ones of which are among these
+-- of marked entries, if all marked ones record no more than some entries and those of a member, the free ones of which are among these
 -- wherever there is a marked one
 pub pieces_among : {X : Type 0} (f : Entry → List X) (here marked front all free sides those : List Entry)
     → ((entry : Entry) → Contains here entry → Contains marked entry)
@@ -122,7 +122,7 @@ stand_told these those has = (stand_among items_in these those has, stand_among 
 pub both_told : (a b those : List Entry) → AreAmong a those → AreAmong b those → AreAmong (a ++ b) those
 both_told a b those first second = (both_among items_in a b those first.0 second.0, both_among told_by a b those first.1 second.1)
 
--- entries that are items tell no more than what has these items
+-- entries that are items record no more than what has these items
 pub items_among : (these those : List Entry) → ((entry : Entry) → Contains these entry → (item : Held) × (entries.Held item ≡ entry) × Contains (items_of those) item) → AreAmong these those
 items_among these those each = (
   each_among items_in these those (λ entry at x its.
@@ -140,7 +140,7 @@ items_among these those each = (
 -- ---- what is read of the last member
 
 module _ {X : Type 0} (told : AreTold X) (f : Entry → List X) (range : Range) (from : ℕ) (last : Written) (count : ℕ) (given own others : List Entry) (own_among : Among f own others) (first_among : Among f (first_counted range from last count) others) where
-  -- the first entry that tells what is given, and own entries do not tell, was read
+  -- the first entry that records what is given, and own entries do not record, was read
   abbrev pub FirstIsRead : Type 0
   FirstIsRead =
       (place : ℕ) (entry : Entry) (x : X) → from ≤ place → slice_get last.entries place ≡ Some entry → is_marked last.marks place ≡ false
@@ -148,7 +148,7 @@ module _ {X : Type 0} (told : AreTold X) (f : Entry → List X) (range : Range) 
       → (Contains (flat_map f (own ++ first_counted range from last place)) x → ⊥) → place < count
 
   module _ (reads : FirstIsRead) (x : X) (wanted : Contains (flat_map f given) x) (none : Contains (flat_map f others) x → ⊥) where
-    -- no entry at these places tells it
+    -- no entry at these places records it
     abbrev NoneBefore : ℕ → Type 0
     NoneBefore bound =
         (place : ℕ) → place < bound → (entry : Entry) → from ≤ place → slice_get last.entries place ≡ Some entry
@@ -184,7 +184,7 @@ module _ {X : Type 0} (told : AreTold X) (f : Entry → List X) (range : Range) 
         (flat_of f (first_counted range from last count) entry x
         (first_stands last.marks range from count last.entries entry (record { place = place; behind = behind; stands = stands; free = free }) before inside) its))
 
-  -- so all that is given is told, where own entries and first ones of the member tell it
+  -- so all that is given is recorded, if own entries and first ones of the member record it
   pub told_with_all : FirstIsRead → (x : X) → Contains (flat_map f given) x → (many : ℕ) → Contains (flat_map f (own ++ first_counted range from last many)) x → Contains (flat_map f others) x
   told_with_all reads x wanted many at = elim (stands_or_not told (flat_map f others) x) [
     | inl there ↦ there
@@ -203,7 +203,7 @@ module _ (truth rest : List Entry) (before : List (List Entry)) (front part behi
   abbrev pub all : List (List Entry)
   all = before ++ (front ++ (part ++ behind)) ∷ after
 
-  -- each entry that was read stands before, at the one member, or nowhere
+  -- each entry that was read is before the one member, at it, or nowhere
   among_all : {X : Type 0} (f : Entry → List X) → All (λ list. Among f list (truth ++ part)) before → ((entry : Entry) → Contains front entry → Contains truth entry) → Among f behind (truth ++ part) → AreNone after → Among f (all_of all) (truth ++ part)
   among_all {X = X} f earlier fronts later none =
       each_among f (all_of all) (truth ++ part) (λ entry at x its.
@@ -228,7 +228,7 @@ module _ (truth rest : List Entry) (before : List (List Entry)) (front part behi
           (Contains-append_cases part behind entry there))
           (Contains-append_cases front (part ++ behind) entry at)
 
-  -- what stands in one of the lists is of all
+  -- what is in one of the lists is of all
   pub line_has : (entry : Entry) → Contains (front ++ (part ++ behind)) entry → Contains (all_of (before ++ (front ++ (part ++ behind)) ∷ after)) entry
   line_has entry at =
       flat_of (λ (list : List Entry). list) all line entry (Contains-append_right before (line ∷ after) line (0, omega arith, refl)) at

@@ -23,7 +23,7 @@ use Rattle.rk_inv_tablets.proofs.crash.LogRead.{copy, group_of, items_at}
 
 -- ---- places
 
--- what stands at a place of two lists stands in the first, or in the other so many places on
+-- what is at a place of two lists is in the first, or in the other so many places on
 pub stands_split : {X : Type 0} (xs ys : List X) (k : ℕ) (x : X) → slice_get (xs ++ ys) k ≡ Some x → (slice_get xs k ≡ Some x) ⊎ ((j : ℕ) × (k ≡ length xs + j) × (slice_get ys j ≡ Some x))
 stands_split [] ys k x at = inr (k, omega arith, at)
 stands_split (y ∷ xs) ys zero x at = inl at
@@ -97,7 +97,7 @@ module _ (reach : ℕ → ℕ) (stored : ℕ → List ℕ) where
         let count : length front ≡ suc place = length-take-le (suc place) group (omega (arith, is.within)) in
         omega (arith, enough, count, ap length part.read_is)
 
-    -- all were, where all bytes are reached
+    -- all were, if all bytes are reached
     all_reached : length (spelled_all group) ≤ reach first → length group ≤ length read
     all_reached whole =
         let enough = front_read group [] part.bytes (part.front.more ++ part.copied.more) lawful
@@ -137,7 +137,7 @@ module _ (reach : ℕ → ℕ) (stored : ℕ → List ℕ) where
 
 -- ---- lists
 
--- where nothing is found each misses
+-- if nothing is found, each fails the test
 pub none_of : {X : Type 0} (p : X → Bool) (xs : List X) → find p xs ≡ None → (x : X) → Contains xs x → p x ≡ false
 none_of p [] none x at = absurd (omega (arith, at.1))
 none_of {X} p (y ∷ xs) none x at =
@@ -157,7 +157,7 @@ module _ (log : Log) (w : Written) (stored : ℕ → ℕ → List ℕ) (kept : I
     abbrev pub main : List Entry
     main = flat_map (λ (list : List Entry). list) gathered.main
 
-    -- the end of an entry is reached, where it is in what is read of its segment
+    -- the end of an entry is reached, if it is in what is read of its segment
     abbrev IsReached : EntryEnd → Type 0
     IsReached end = (bytes : List ℕ) → IsReadPart Needed known its end.segment bytes → end.offset ≤ length bytes
 

@@ -15,7 +15,7 @@ use Rattle.rk_inv_tablets.proofs.crash.Unmarked.{first_stands}
 
 -- ---- lists
 
--- a list in which nothing stands is empty
+-- a list that has nothing is empty
 pub none_there : {X : Type 0} (xs : List X) → ((x : X) → Contains xs x → ⊥) → xs ≡ []
 none_there [] none = refl
 none_there (x ∷ xs) none = absurd (none x (zero, omega arith, refl))
@@ -78,7 +78,7 @@ module _ (marks : List Mark) where
           let same : start + suc found.0 ≡ suc start + found.0 = omega arith in
           (suc found.0, found.1, ap (is_marked marks) same ∙ found.2)
 
-  -- each unmarked entry that counts stands before each marked one that does
+  -- each unmarked entry that counts comes before each marked one that does
   abbrev pub StandBefore : Range → ℕ → List Entry → Type 0
   StandBefore range start list =
       (k j : ℕ) (a b : Entry) → slice_get list k ≡ Some a → slice_get list j ≡ Some b → is_marked marks (start + k) ≡ true
@@ -96,7 +96,7 @@ module _ (marks : List Mark) where
       let less = before 0 (suc found.0) entry other refl found.1 (ap (is_marked marks) here ∙ marked) (ap (is_marked marks) there ∙ found.2) inside kept.1 in
       omega (arith, less))
 
-  -- the others stand so too
+  -- so it is for the later ones
   stand_later : (range : Range) (start : ℕ) (entry : Entry) (list : List Entry) → StandBefore range start (entry ∷ list) → StandBefore range (suc start) list
   stand_later range start entry list before k j a b one other marked unmarked first second =
       let at_k : start + suc k ≡ suc start + k = omega arith in
@@ -137,7 +137,7 @@ abbrev pub later_part : Range → ℕ → Written → List Entry → List Entry
 later_part range from w list = counting range (unmarked_from w.marks (max from w.applied) list)
 
 -- these first entries of a log were read, and what is read of each side segment that they name is all of it. What bears a mark names none,
--- and stands behind all that counts and bears none
+-- and comes behind all that counts and bears none
 pub record IsReadLog (range : Range) (from : ℕ) (w : Written) (main : List Entry) (side : ℕ → List Entry) : Type 0 where
   pub more : List Entry
   pub parts : w.entries ≡ main ++ more
@@ -161,7 +161,7 @@ free_grow range from w old new grown entry at =
     still_contains (free_part range from w old) (free_part range from w new) entry (counting_extends range w.marks from old new grown) at
 
 module _ (range : Range) (from : ℕ) (w : Written) (main : List Entry) (side : ℕ → List Entry) (read : IsReadLog range from w main side) where
-  -- what stands in what was read stands in the log, at its place
+  -- what is in what was read is in the log, at its place
   at_place : (k : ℕ) (entry : Entry) → slice_get (drop from main) k ≡ Some entry → slice_get w.entries (from + k) ≡ Some entry
   at_place k entry at = rw read.parts (stands_front main read.more (from + k) entry (place_of main from k (from + k) entry refl at))
 
@@ -206,7 +206,7 @@ module _ (range : Range) (from : ℕ) (w : Written) (main : List Entry) (side : 
     parts = sym (take-append-drop w.applied main) ∙ ap (λ (l : List Entry). l ++ drop w.applied main) first_entries;
   }
 
-  -- ---- what stands there
+  -- ---- what is there
 
   abbrev all : List Entry
   all = material_of range side (drop from main)
@@ -271,7 +271,7 @@ module _ (range : Range) (from : ℕ) (w : Written) (main : List Entry) (side : 
         inside = kept.1;
       }
 
-  -- where one was read, all that counts and bears no mark was
+  -- if a marked one was read, all that counts and bears no mark was
   pub all_read : (entry : Entry) → Contains (marked_part range from w main) entry → (other : Entry) → Contains (free_part range from w w.entries) other → Contains (free_part range from w main) other
   all_read entry at other there =
       let is = marked_read entry at in

@@ -31,7 +31,7 @@ later_misses range (suc n) zero list behind all = absurd (omega (arith, behind))
 later_misses range (suc n) (suc m) [] behind all = all
 later_misses range (suc n) (suc m) (entry ∷ list) behind all = later_misses range n m list (omega (arith, behind)) all
 
--- entries that miss a range tell nothing of it
+-- entries that miss a range record nothing of it
 missed_more : (range : Range) (side : ℕ → List Entry) (list more : List Entry) → range.first ≤ range.last → All (Misses range) more → material_of range side (list ++ more) ≡ material_of range side list
 missed_more range side list more some missed =
     grind (arith, counting, filter-append, counts, counting_none, append-nil, named_by, flat_map-append, all_names_none, with_number)
@@ -52,8 +52,8 @@ done_settled written range member some missed =
 
 -- ---- who rebuilt
 
--- a rebuild that may be taken, in a sound view whose logs can be read again, of a range that is not empty; no more main segments were gathered
--- than there can be
+-- a rebuild that may be taken, in a sound view whose logs can be read again, of a range that is not empty; no more main segments were
+-- gathered than there can be
 pub record Taken (v : View) : Type 0 where
   pub row : Row
   pub lineage : List Member
@@ -116,7 +116,7 @@ module _ (v : View) (t : Taken v) where
   pub own_is : own_place (v.handovers t.to t.row.tablet).role ≡ t.place
   own_is = ap own_place at.role_is
 
-  -- nothing of the range stands behind what is applied
+  -- nothing of the range is behind what is applied
   pub own_done : IsDone v.written t.row.range (member_at t.to t.place)
   own_done =
       let same : builder.range ≡ t.row.range =
@@ -170,7 +170,7 @@ module _ (v : View) (sound : SoundView v) (readable : AreReadable v.logs v.writt
   lawful : All IsLawfulEntry (v.logs gathered.member.master).entries
   lawful = rw kept.entries_are (readable.entries gathered.member.master)
 
-  -- where a marked entry stands, by its mark
+  -- a marked entry that counts comes behind each unmarked one that counts, by its mark
   marked_last : (place : ℕ) (entry : Entry) → slice_get w.entries place ≡ Some entry → is_marked w.marks place ≡ true → counts row.range entry ≡ true → (other : Entry) → (is : IsUnmarked w.marks m.from w.entries other) → counts row.range other ≡ true → is.place < place
   marked_last place entry at marked inside other is counted =
       let found : HasMark w.marks place = mark_of w.marks place marked in
@@ -204,7 +204,7 @@ module _ (v : View) (sound : SoundView v) (readable : AreReadable v.logs v.writt
         (none_left row.range gathered none).0 place end (ap (λ (list : List Entry). slice_get (ends list) place) kept.entries_are ∙ at)
         needed
 
-    -- what was read that bears a mark is of rebuilds that were given up, where another master rebuilds the row now
+    -- what was read that bears a mark is of rebuilds that were given up, if another master rebuilds the row now
     pub given_up_read : (lineage : List Member) (to : ℕ) → row.phase ≡ Rebuilding lineage to → (gathered.member.master ≡ to → ⊥) → (entry : Entry) → Contains (marked_part row.range gathered.member.from (v.written gathered.member.master) main_of) entry → Contains (counting row.range (marked_entries (given_up_marks row (v.written gathered.member.master).marks) gathered.member.from (drop gathered.member.from (v.written gathered.member.master).entries))) entry
     given_up_read lineage to is away entry at =
         let one = marked_read row.range m.from w main_of (side_read gathered) log_read entry at in
