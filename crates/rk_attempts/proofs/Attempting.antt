@@ -175,7 +175,7 @@ module _ {R : Type 0} (segments : R → Option Segments) where
               (λ w v u of_old of_sent of_new one two. one ∙ two);
         }
 
-  -- one that could not ask
+  -- an attempt that could not ask
   pub attempt_refused : (old : LaneState R) (running : Running) (session : Session) (error : StepError) → old.running ≡ Some running
       → IsRefusedFor (λ w. ask_refusal w session) old error → IsAttempt segments old old session session (refused_by error)
   attempt_refused old running session error runs refused = record {

@@ -38,7 +38,7 @@ module _ (w : World) (stored : NumberMap Segments) where
 
 -- ---- one thing after the other
 
--- a world is one that a lane stands for, whatever its replicas tell
+-- a lane represents this world, whatever its replicas report
 pub record IsOneOf {R : Type 0} (lane : LaneState R) (w : World) : Type 0 where
   pub running : Running
   pub runs : lane.running ≡ Some running
@@ -150,7 +150,7 @@ module _ {R : Type 0} (segments : R → Option Segments) where
         };
       })
 
-  -- what an event made is the same with whatever its replica answered, where it calls none
+  -- what an event made is the same whatever its replica answered, if it calls none
   pub came_with : (w : World) (event : Event) (called other : Called) → happened w event called ≡ happened w event other
       → came (started w) event called ≡ came (started w) event other
   came_with w event called other same = grind arith

@@ -9,7 +9,7 @@ use Rattle.rk_attempts.specs.Replays.{replay_on}
 use Rattle.rk_attempts.specs.Turns.{left_to_replays, next_message, turn_on}
 use Rattle.rk_attempts.specs.declared.attempt.Attempt.TheVariants as attempts
 
--- in a lane where nothing has happened a replay finds no message
+-- in a lane in which nothing has happened a replay finds no message
 pub replay_on-new : replay_on (new_world 0 1 1) 1 (Gave None) ≡ started (new_world 0 1 1)
 replay_on-new = refl
 

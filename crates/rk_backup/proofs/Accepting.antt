@@ -15,13 +15,13 @@ accepted_at_end at bytes stored e =
     sym ((λ i. leb at (length stored) && bytes_eq (take (none i) (drop at stored)) (take (none i) bytes))
     ∙ ap (λ (b : Bool). b && true) (le-leb at (length stored) (omega arith)))
 
--- told segments are the same as themselves
+-- reported segments are the same as themselves
 pub told_same : (told : Option Segments) → WhereTold IsSame told told
 told_same None = tt
 told_same (Some segments) = λ m s. refl
 
 module _ (master segment at : ℕ) (bytes : List ℕ) where
-  -- a fact of the stored bytes, where they are told
+  -- a fact of the stored bytes, if they are reported
   abbrev pub OfStored : (List ℕ → Type 0) → Option Segments → Type 0
   OfStored P told = IfSome told (λ segments. P (bytes_of (segments master segment)))
 
@@ -37,7 +37,7 @@ module _ (master segment at : ℕ) (bytes : List ℕ) where
   gap_told count (Some segments) long gap =
       cond-false (is_accepted at bytes (bytes_of (segments master segment))) _ [] (and_left _ _ (lt-leb at _ (omega arith)))
 
-  -- nor where all of them are stored
+  -- nor if all of them are stored
   pub all_told : (count : ℕ) (told : Option Segments) → IfSome told (λ segments. count ≡ lengths_of segments master segment) → length bytes ≤ count - at
       → OfStored (λ stored. added at bytes stored ≡ []) told
   all_told count None long all = tt
@@ -56,7 +56,7 @@ module _ (master segment at : ℕ) (bytes : List ℕ) where
       cond-true (is_accepted at bytes (bytes_of (segments master segment))) _ [] (sym is ∙ here)
       ∙ ap (λ (k : ℕ). drop (k - at) bytes) (sym long) ∙ sym more_is
 
-  -- where nothing is added, nothing changes
+  -- if nothing is added, nothing changes
   pub unchanged : (answer : ℕ) (old new : Option Segments) → WhereTold IsSame old new → OfStored (λ stored. added at bytes stored ≡ []) old
       → WhereTold (Accepts {T = ℕ} (Ok answer) master segment at bytes) old new
   unchanged answer None new same none = tt
@@ -82,7 +82,7 @@ module _ (master segment at : ℕ) (bytes : List ℕ) where
     others = λ m s apart. stores.others m s apart ∙ same m s;
   }
 
-  -- and one that fails some first part of it
+  -- and an append that fails accepts some first part of it
   pub refused : (lost : Lost) (more : List ℕ) (old mid new : Option Segments) → WhereTold IsSame old mid
       → WhereTold (Stores (Err lost) master segment more) mid new → OfStored (λ stored. added at bytes stored ≡ more) old
       → WhereTold (Accepts {T = ℕ} (Err lost) master segment at bytes) old new

@@ -24,7 +24,7 @@ front_to (suc count) (x ∷ xs) (y ∷ ys) equal in_x in_y differ =
     ap (λ (l : List ℕ). x ∷ l) (front_to count xs ys (equal_tail count x y xs ys equal) (omega (arith, in_x)) (omega (arith, in_y)) differ)
     ∙ sym (cond-true (eqb x y) (x ∷ common_front xs ys) [] (eq-eqb x y (equal 0 0 (omega arith))))
 
--- where one of them ends, so does it
+-- if one of them ends there, so does it
 pub front_whole : (count : ℕ) (xs ys : List ℕ) → AreEqualTo count xs ys → count ≤ length xs → count ≤ length ys → (count ≡ length xs) ⊎ (count ≡ length ys) → take count xs ≡ common_front xs ys
 front_whole count [] ys equal in_x in_y ends = take_none count
   where

@@ -11,7 +11,7 @@ use Rattle.rk_message.specs.declared.rebuilding.ReadSegment.{ReadSegment}
 use Rattle.rk_world.specs.Backup.{Failed, Gave, copied}
 use Rattle.rk_backup_node.specs.Called.{IsCopied, IsReadOf}
 
--- what is told of a failed call
+-- what is reported of a failed call
 told_failed : (told : Option Segments) (read : ReadSegment) → IfSome told (λ segments. IsReadOf segments read (Failed 0))
 told_failed None read = tt
 told_failed (Some segments) read = refl
@@ -22,7 +22,7 @@ module _ (number reader : ℕ) (read : ReadSegment) (log : List ℕ) (told : Opt
   failed_read failed = record { called = Failed 0; backed = refl; given = told_failed told read }
   failed_read NoMemory = record { called = Failed 0; backed = tt; given = told_failed told read }
 
-  -- what is told of one that gave bytes
+  -- what is reported of a read that gave bytes
   given_told : (told : Option Segments) (bytes : Option (List ℕ)) → IfSome told (λ segments. bytes ≡ segments read.master read.segment) → IfSome told (λ segments. IsReadOf segments read (Gave bytes))
   given_told None bytes is = tt
   given_told (Some segments) bytes is = is
@@ -35,7 +35,7 @@ module _ (number reader : ℕ) (read : ReadSegment) (log : List ℕ) (told : Opt
     body = bodies.Copy (record { tenure = read.tenure; master = read.master; segment = read.segment; bytes = copy });
   }
 
-  -- one that gave bytes
+  -- a read that gave bytes
   pub given_read : (bytes : Option (List ℕ)) (from : ℕ) (copy : Option (List ℕ)) → from ≡ number → copy ≡ copied bytes log → IfSome told (λ segments. bytes ≡ segments read.master read.segment) → IsCopied number reader read log told (Ok (answer from copy))
   given_read bytes from copy from_is copy_is is = record {
     called = Gave bytes;

@@ -29,12 +29,12 @@ part_length : (stored : Option (List ℕ)) (bytes : List ℕ) → length (bytes_
 part_length stored [] = omega arith
 part_length stored (byte ∷ bytes) = length-append (bytes_of stored) (byte ∷ bytes)
 
--- a first part is what is left of a list where as many are taken
+-- taking as many elements as a first part has gives that part
 front_taken : (front back : List ℕ) (count : ℕ) → count ≡ length front → take count (front ++ back) ≡ front
 front_taken front back count is = ap (λ (n : ℕ). take n (front ++ back)) is ∙ take-append_seam front back
 
 module _ (master : ℕ) (append : Append) where
-  -- told segments after an append
+  -- reported segments after an append
   stored_is : {T : Type 0} (result : Result T Lost) (before after : ℕ) (old new : Segments) → before ≡ lengths_of old master append.segment → after ≡ lengths_of new master append.segment → Accepts result master append.segment append.at append.bytes old new → new ≡ append_taken old master append (append_called result before after)
   stored_is (Ok answer) before after old new was is accepts =
       changed master append.segment _ old new accepts
@@ -53,7 +53,7 @@ module _ (master : ℕ) (append : Append) where
       ∙ ap (λ (n : ℕ). with_stored old master append.segment
       (with_part (old master append.segment) (take n (added append.at append.bytes (bytes_of (old master append.segment)))))) (sym none)
 
-  -- where they are told
+  -- the same, if they are reported
   pub stored_told : {T : Type 0} (result : Result T Lost) (before after : ℕ) (old new : Option Segments) → IfSome old (λ told. before ≡ lengths_of told master append.segment) → IfSome new (λ told. after ≡ lengths_of told master append.segment) → WhereTold (Accepts result master append.segment append.at append.bytes) old new → WhereTold (λ old new. new ≡ append_taken old master append (append_called result before after)) old new
   stored_told result before after None new was is accepts = tt
   stored_told result before after (Some old) None was is accepts = accepts

@@ -126,7 +126,7 @@ module _ (per_bucket : ℕ) (heads : List ℕ) (cells : Cells) (number : ℕ) (a
     at_within : at ≢ END
     at_within same = absurd (cc (here, state.table.free, ap (cell_at cells) same))
 
-    -- what stays where that cell alone changes
+    -- what stays if that cell alone changes
     module _ (after : Cells) (others : (other : ℕ) → other ≢ at → cell_at after other ≡ cell_at cells other) where
       spared : (items : List Held) → AllByRecursion (IsOther old) items → AllByRecursion (IsSpared cells after) items
       spared = spared_others cells after at old next here others

@@ -6,7 +6,7 @@ use Rattle.rk_cluster.specs.Told.{LaneTells}
 use Rattle.rk_conclude.specs.Results.{one_owner, owner_in_all}
 
 module _ {R : Type 0} (segments : R → Option Segments) where
-  -- where no lane is there
+  -- if no lane is there
   none_there : (lanes : List (LaneState R)) (worlds : List World) → slice_get lanes 0 ≡ None → AreWorlds segments lanes worlds → one_owner worlds ≡ None
   none_there [] [] none are = refl
   none_there [] (w ∷ worlds) none are = absurd are

@@ -12,7 +12,7 @@ pub added : (start first second whole part lines line : List ℕ) → start ≡ 
     → whole ≡ part ++ lines ++ line
 added start first second whole part lines line none one two three = grind arith
 
--- the report of a cluster, by the journals and the results that were told of it
+-- the report of a cluster, by the journals and the results that were reported of it
 pub reported : (history : Bool) (cluster : Cluster) (journals : List (List Placed)) (receipts : List Receipt) (summary : Summary) (wrong : Option Receipt) (text : List ℕ) (status : Status)
     → journals ≡ journals_of cluster → receipts ≡ receipts_in cluster.sessions → summary ≡ summary_of cluster → Audits journals receipts wrong
     → text ≡ history_part history journals ++ result_lines summary ++ audit_line journals wrong → status ≡ audit_status wrong

@@ -9,12 +9,12 @@ use Rattle.rk_history.specs.Audit.{IsFirstWrong as IsWrongAt}
 use Rattle.rk_history.specs.declared.auditing.Disagree.{Disagree}
 use Rattle.rk_conclude.specs.Reports.{IsFirstWrong}
 
--- what is lent of a list at a place stands there
+-- what is lent of a list at a place is what is there
 pub lent_at : {X : Type 0} (xs : List X) (place : ℕ) (lent : Option (Bor X)) → IsItemAt xs place lent → option_copied lent ≡ slice_get xs place
 lent_at xs place None got = sym (slice_get_past xs place got.3)
 lent_at xs place (Some x) got = ap Some got.1 ∙ sym (slice_get-get_or xs place x.now got.3.0)
 
--- a list is what stands before a place, what stands there, and what is behind it
+-- a list is what comes before a place, what is there, and what comes behind it
 cut_at : {X : Type 0} (xs : List X) (place : ℕ) (x : X) → slice_get xs place ≡ Some x → xs ≡ take place xs ++ x ∷ drop (suc place) xs
 cut_at [] place x there = absurd (cc there)
 cut_at (y ∷ ys) zero x there = let same : y ≡ x = cc there in ap (λ first. first ∷ ys) same

@@ -6,7 +6,7 @@ use Rattle.rk_tablet_map.specs.Rows.{row_of}
 use Rattle.rk_world.specs.Coordinator.{Coordinator}
 use Rattle.rk_coordinator.specs.Lane.{MayRise}
 
--- what holds of each row holds of the one that is found
+-- what holds of each row holds of the row that is found
 held_by_found : (P : Row → Type 0) (rows : List Row) (tablet : ℕ) (row : Row) → All P rows → row_of rows tablet ≡ Some row → P row
 held_by_found P [] tablet row all is = absurd (cc)
 held_by_found P (first ∷ rows) tablet row all is =
@@ -15,6 +15,6 @@ held_by_found P (first ∷ rows) tablet row all is =
       | false ↦ λ there. held_by_found P rows tablet row (All-tail P first rows all) there
     ] is
 
--- where each term may rise, that of the row that is found may
+-- if each term may rise, that of the row that is found may
 pub found_may_rise : (coordinator : Coordinator) (tablet : ℕ) (row : Row) → MayRise coordinator → Some row ≡ row_of coordinator.rows tablet → row.term < 2 ^ 63
 found_may_rise coordinator tablet row may_rise found = held_by_found (λ row. row.term < 2 ^ 63) coordinator.rows tablet row may_rise (sym found)

@@ -13,7 +13,7 @@ use Rattle.rk_dispatch.specs.Balance.{AreSame, IsBalanced, IsIdle, IsLeft, first
 
 -- ---- sums over all accounts
 
--- what stands at a place is there
+-- an account found at a place is there
 at_place : (accounts : List Account) (place : ℕ) (a : Account) → get_elem? accounts place ≡ some a
     → (place < length accounts) × (get_or accounts place a ≡ a)
 at_place [] place a at = absurd (some-ne-none a (sym at))
@@ -45,7 +45,7 @@ module _ (f : Account → ℕ) (none : (a : Account) → a.given ≡ [] → a.ta
   none_idle : (a : Account) → IsIdle a → a.parts ≡ 0 → f a ≡ 0
   none_idle a idle without = let nothing = idle without in none a nothing.0 nothing.1
 
-  -- where no account has a part, there is none
+  -- if no account has a part, there is none
   none_without : (accounts : List Account) → All IsIdle accounts → sum_by parts_of accounts ≡ 0 → sum_by f accounts ≡ 0
   none_without [] idle without = refl
   none_without (a ∷ more) idle without =
@@ -55,7 +55,7 @@ module _ (f : Account → ℕ) (none : (a : Account) → a.given ≡ [] → a.ta
       let rest = none_without more (All-tail IsIdle a more idle) (omega (arith, without, parts)) in
       omega (arith, sums, first, rest)
 
-  -- where one account has all parts, it has all
+  -- if one account has all parts, it has all
   alone : (accounts : List Account) (place : ℕ) (a : Account) → get_elem? accounts place ≡ some a → All IsIdle accounts
       → sum_by parts_of accounts ≡ a.parts → sum_by f accounts ≡ f a
   alone accounts place a at idle whole =
@@ -187,7 +187,7 @@ learns place a queued accounts rule at all p =
 
 -- ---- what the two takers of an exchange took
 
--- where nothing is left, and all was given, it is what was given
+-- if nothing is left, and all was given, it is what was given
 pub all_taken : (first second taken others left : List Parcel) (m n : ℕ) → length first ≤ m → length second ≤ n → length left ≡ 0
     → AreSame (take m first ++ take n second) ((((taken ++ others) ++ []) ++ []) ++ left) → AreSame (first ++ second) (taken ++ others)
 all_taken first second taken others left m n all more none same p =

@@ -76,7 +76,7 @@ pub still_unasked : {R : Type 0} (old new : LaneState R) → IsAskedAlike old.le
 still_unasked old new alike unasked =
     record { asked = alike.asked ∙ unasked.asked; journal = alike.journal ∙ unasked.journal; clients = λ client. alike.last client ∙ unasked.clients client }
 
--- a lane where nothing happened has no client, of whom nobody asked
+-- a lane in which nothing has happened has no client, and nobody asked it anything
 pub fresh_is : {R : Type 0} (masters backups : ℕ) (lane : LaneState R) → IsFresh masters backups lane → IsUnasked lane × HasClients [] lane.ledger
 fresh_is masters backups lane fresh = grind (arith, fresh.ledger_is)
 
@@ -105,6 +105,6 @@ pub of_roster : {R : Type 0} (masters backups : ℕ) (clients : List ℕ) (old n
 of_roster masters backups clients old new fresh same has =
     record { masters_are = same.masters ∙ fresh.masters_are; backups_are = same.backups ∙ fresh.backups_are; clients_are = has }
 
--- clients stay where an event adds none
+-- clients stay if an event adds none
 pub same_roster : (clients : List ℕ) (before after : Ledger) → ((client : ℕ) → is_added after client ≡ (false || is_added before client)) → HasClients clients before → HasClients clients after
 same_roster clients before after adds has = λ client. adds client ∙ has client

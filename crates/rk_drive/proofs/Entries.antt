@@ -15,7 +15,7 @@ use Rattle.rk_world.specs.Client.{Session}
 greater : (other number : ℕ) → other < number → nat_cmp number other ≡ Greater
 greater other number less = grind (arith, common_steps, less)
 
--- a thing stands behind those of smaller numbers
+-- a thing comes behind those of smaller numbers
 insert_behind : {X : Type 0} (things : NumberMap X) (number : ℕ) (thing : X) → All (λ entry. entry.0 < number) things
     → insert things number thing ≡ things ++ (number, thing) ∷ []
 insert_behind [] number thing below = refl

@@ -33,7 +33,7 @@ act_from masters from (suc count) least most =
 pub makes_weaker : (makes freer : Call → Type 0) → ((call : Call) → makes call → freer call) → (session : Session) → MakesOnly makes session → MakesOnly freer session
 makes_weaker makes freer gives session it = grind arith
 
--- what is said where this is taken for granted is said where that is from which it follows
+-- what is said with `before` taken for granted is said with `later` taken for granted, from which it follows
 module _ {R : Type 0} (segments : R → Option Segments) (before later : Type 0) (plan : Plan) (gives : later → before) where
   pub granted : (lanes : List (LaneState R)) (sessions : List Session) → AreDriven segments before plan lanes sessions → AreDriven segments later plan lanes sessions
   granted lanes sessions it = grind arith

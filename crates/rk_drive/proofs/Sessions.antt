@@ -41,7 +41,7 @@ all_ended calls (session ∷ sessions) orderly answered =
 pub entries_ended : (calls : ℕ) (sessions : List Session) → AllOrderly sessions → All (HasAnswers calls) sessions → EachIn IsEnded (map entry_of sessions)
 entries_ended calls sessions orderly answered = each_from_pairs IsEnded (map entry_of sessions) (all_ended calls sessions orderly answered)
 
--- what orderly sessions made is what their numbers tell
+-- what orderly sessions made is what their numbers show
 pub entries_called : (sessions : List Session) → AllOrderly sessions → calls_in (map entry_of sessions) ≡ calls_made sessions
 entries_called [] orderly = refl
 entries_called (session ∷ sessions) orderly =

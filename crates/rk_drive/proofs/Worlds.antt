@@ -42,7 +42,7 @@ good_at masters place (w ∷ worlds) zero d good inside = subst (λ (n : ℕ). I
 good_at masters place (w ∷ worlds) (suc lane) d good inside =
     subst (λ (n : ℕ). IsGoodLane masters n (slice_index_or worlds lane d)) (omega arith) (good_at masters (place + 1) worlds lane d good.1 (omega (arith, inside)))
 
--- lanes stand for good worlds that counted their calls
+-- lanes represent good worlds that counted their calls
 pub record StandForGood {R : Type 0} (segments : R → Option Segments) (masters place : ℕ) (lanes : List (LaneState R)) : Type 0 where
   pub worlds : List World
   pub are : AreWorlds segments lanes worlds
@@ -50,7 +50,7 @@ pub record StandForGood {R : Type 0} (segments : R → Option Segments) (masters
   pub counted : All (λ (w : World). HasCountedCalls w.ledger) worlds
 
 module _ {R : Type 0} (segments : R → Option Segments) where
-  -- one that runs
+  -- a lane that runs
   record StandsForGood (masters place : ℕ) (lane : LaneState R) : Type 0 where
     pub running : Running
     pub runs : lane.running ≡ Some running

@@ -72,7 +72,7 @@ kind_again kind rest = rw (number_again w8 wide8 (kind_number kind) rest (kind_s
 
 -- ---- lengths of bodies
 
--- where two tests hold together, each holds
+-- if two tests hold together, each holds
 both_true : (a b : Bool) → (a && b) ≡ true → (a ≡ true) × (b ≡ true)
 both_true true b e = (refl, e)
 both_true false b e = absurd cc
@@ -99,7 +99,7 @@ body_length_takes kind bytes x e =
     subst (λ (y : ℕ × List ℕ). (y.0 ≤ LONGEST_BODY) × Takes bytes (number_bytes w32 y.0) y.1 (y.0 < 256 ^ 4)) g.1
     (body_within kind a.0.0 (not_false (is_body_length kind a.0.0) g.0), number_takes w32 wide32 bytes a.0 a.1)
 
--- a length that the kind allows is read where it is spelled
+-- a length that the kind allows is read back from its spelling
 body_length_again : (kind : Kind) (n : ℕ) (rest : List ℕ) → is_body_length kind n ≡ true → read_body_length kind (number_bytes w32 n ++ rest) ≡ Ok (n, rest)
 unfolding read_body_length
 body_length_again kind n rest lawful =
@@ -121,7 +121,7 @@ mark_takes_if true front bytes rest e =
     (takes_weaker (λ (fits : a.0.0 < 256). tt) (number_takes w8 wide8 bytes a.0 a.1)))
 mark_takes_if false front bytes rest e = grind (arith, ok_is)
 
--- what is read at the end of an entry of this kind is its mark, where it has one
+-- what is read at the end of an entry of this kind is its mark, if it has one
 mark_takes : (kind : Kind) (front bytes rest : List ℕ) → read_mark kind front bytes ≡ Ok rest → Takes bytes (mark_bytes kind front) rest ⊤
 unfolding read_mark
 mark_takes kind front bytes rest e = mark_takes_if (is_marked kind) front bytes rest e
@@ -144,7 +144,7 @@ mark_again kinds.LongObject front rest =
 
 -- ---- entries that are read
 
--- what stands before the rest
+-- what comes before the rest
 pub before_is : (bytes front rest : List ℕ) → bytes ≡ front ++ rest → before rest bytes ≡ front
 before_is bytes front rest split = grind (arith, length-append, take_at)
 
@@ -197,7 +197,7 @@ entry_shorter bytes x e =
     let shorter : length m.0 < length bytes = omega (arith, split, kind_shorter bytes k.0 k.1) in
     subst (λ (r : List ℕ). length r < length bytes) rest shorter
 
--- the fields of an entry stand before the rest
+-- the fields of an entry come before the rest, which is no longer than the bytes
 pub fields_shorter : (bytes : List ℕ) (kind : Kind) (after_kind : List ℕ) (body : ℕ) (after_length : List ℕ) (entry : Entry) (rest : List ℕ)
     → read_kind bytes ≡ Ok (kind, after_kind) → read_body_length kind after_kind ≡ Ok (body, after_length) → read_fields kind body after_length ≡ Ok (entry, rest)
     → length rest ≤ length bytes
@@ -226,7 +226,7 @@ list_length first each most count n some is within = grind (arith, is_in_range_o
 pub lawful_length : (entry : Entry) → IsLawfulEntry entry → is_body_length (kind_of entry) (body_length entry) ≡ true
 lawful_length entry h = grind (arith, text_within, body_count, is_in_range_of, list_length, body_of, ltb, ltb-true, ltb-false)
 
--- what stands before the mark, field by field
+-- what comes before the mark, field by field
 front_parts : (entry : Entry) (rest : List ℕ) → front_bytes entry ++ rest ≡ number_bytes w8 (kind_number (kind_of entry)) ++ (number_bytes w32 (body_length entry) ++ (fields_bytes entry ++ rest))
 unfolding front_bytes
 front_parts entry rest =

@@ -67,7 +67,7 @@ ends_again above before (e ∷ ends) rest each rising =
 
 -- ---- numbers of side segments
 
--- where one of two tests fails to hold, both do
+-- if the `or` of two tests fails, both fail
 both_false : (a b : Bool) → (a || b) ≡ false → (a ≡ false) × (b ≡ false)
 both_false true b e = absurd cc
 both_false false b e = (refl, e)
@@ -82,7 +82,7 @@ all_at : (P : ℕ → Type 0) (xs : List ℕ) (y : ℕ) (ys : List ℕ) → AllB
 all_at P [] y ys all = all.0
 all_at P (x ∷ xs) y ys all = all_at P xs y ys all.1
 
--- a number that is not among distinct numbers may stand behind them
+-- a number that is not among distinct numbers may be put behind them
 distinct_push : (xs : List ℕ) (y : ℕ) → is_among y xs ≡ false → IsDistinct eqb xs → IsDistinct eqb (xs ++ y ∷ [])
 unfolding IsDistinct
 distinct_push [] y other distinct = (tt, tt)

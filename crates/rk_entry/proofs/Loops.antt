@@ -34,7 +34,7 @@ ends_fail (Bad code) count i above before bytes whole more failed so_far =
     sym so_far ∙ one
 ends_fail NoMemory count i above before bytes whole more failed so_far = tt
 
--- where no end is left to be read, those that were read are the whole
+-- if no end is left to be read, those that were read are the whole
 pub ends_done : (count i above : ℕ) (before : List Ended) (bytes : List ℕ) (whole : Result (List Ended × List ℕ) DecodeError)
     → count ≤ i → read_ends (count - i) above before bytes ≡ whole → whole ≡ Ok (before, bytes)
 unfolding read_ends
@@ -67,7 +67,7 @@ segments_fail (Bad code) count i before bytes whole more failed so_far =
     sym so_far ∙ one
 segments_fail NoMemory count i before bytes whole more failed so_far = tt
 
--- where no number is left to be read, those that were read are the whole
+-- if no number is left to be read, those that were read are the whole
 pub segments_done : (count i : ℕ) (before : List ℕ) (bytes : List ℕ) (whole : Result (List ℕ × List ℕ) DecodeError)
     → count ≤ i → read_segments (count - i) before bytes ≡ whole → whole ≡ Ok (before, bytes)
 unfolding read_segments

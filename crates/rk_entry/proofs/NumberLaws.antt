@@ -40,7 +40,7 @@ wide32 = grind (arith, be_bytes_4, from_be_bytes-to_be_bytes_4)
 pub wide64 : IsWide w64
 wide64 = grind (arith, be_bytes_8, from_be_bytes-to_be_bytes_8)
 
--- where something was read there were bytes enough
+-- if something was read there were bytes enough
 enough : {A : Type 0} (b : Bool) (x y : A) → cond b (Err Cut) (Ok x) ≡ Ok y → (b ≡ false) × (x ≡ y)
 enough true x y e = absurd cc
 enough false x y e = (refl, cc)

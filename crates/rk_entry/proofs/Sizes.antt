@@ -24,7 +24,7 @@ pub body_count : (entry : Entry) → body_length entry ≡ fields_count entry + 
 unfolding body_length
 body_count entry = ap (λ (n : ℕ). n + mark_count (kind_of entry)) (length-fields_bytes entry)
 
--- what stands before the mark
+-- what comes before the mark
 pub front_count : (entry : Entry) → length (front_bytes entry) ≡ HEAD_BYTES + fields_count entry
 unfolding front_bytes
 front_count entry =
@@ -47,7 +47,7 @@ spelled_count entry =
 value_and_mark : (value : Option (List ℕ)) → value_count value + mark_count (item_kind value) ≡ spelled_value_of value
 value_and_mark value = grind (arith, ltb)
 
--- the length that an item tells is that of its spelling
+-- the length that is given for an item is that of its spelling
 pub held_spelled : (held : Held) → spelled_of held ≡ length (spelled (entries.Held held))
 unfolding spelled_of
 held_spelled held = omega (arith, spelled_count (entries.Held held), value_and_mark held.value)

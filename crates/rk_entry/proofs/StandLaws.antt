@@ -17,7 +17,7 @@ use Rattle.rk_entry.proofs.EntryLaws.{entry_takes, entry_again, entry_shorter}
 
 -- ---- one entry
 
--- what is read stands first
+-- an entry that is read comes first in the bytes
 pub stands_first : (bytes : List ℕ) (entry : Entry) (rest : List ℕ) → IsBytes bytes → read_entry bytes ≡ Ok (entry, rest) → StandsFirst bytes entry (length bytes - length rest)
 stands_first bytes entry rest fits read =
     let taken = entry_takes bytes (entry, rest) read in
@@ -77,7 +77,7 @@ entries_of-cons bytes entry rest read =
     ap (λ (n : ℕ). entries_within n bytes) k ∙ ap (λ (r : Result (Entry × List ℕ) DecodeError). before_others r (entries_within (length bytes - 1))) read in
     first ∙ ap (λ (others : List Entry). entry ∷ others) (within_enough (length bytes - 1) (length rest) rest (omega (arith, entry_shorter bytes (entry, rest) read)) (omega arith))
 
--- where no entry is read there are none
+-- if no entry is read there are none
 pub entries_of-none : (bytes : List ℕ) (fault : DecodeError) → read_entry bytes ≡ Err fault → entries_of bytes ≡ []
 unfolding entries_of entries_within
 entries_of-none [] fault read = refl
@@ -120,7 +120,7 @@ all_again (e ∷ entries) rest each =
     ∙ entries_of-cons (spelled e ++ (spelled_all entries ++ rest)) e (spelled_all entries ++ rest) (entry_again e (spelled_all entries ++ rest) each.0)
     ∙ ap (λ (others : List Entry). e ∷ others) (all_again entries rest each.1)
 
--- where no entry is read none stands
+-- if no entry is read, no lawful one is spelled at the front of the bytes
 pub none_stands : (bytes : List ℕ) (fault : DecodeError) → read_entry bytes ≡ Err fault → StandsNone bytes
 none_stands bytes fault read entry after lawful is = grind (arith, entry_again)
 
@@ -157,7 +157,7 @@ read_is : (r : Result (Entry × List ℕ) DecodeError) (x : Entry × List ℕ) �
 read_is (Ok y) x e = cc
 read_is (Err fault) x e = absurd cc
 
--- where nothing is read there is a fault
+-- if nothing is read there is a fault
 read_failed : (r : Result (Entry × List ℕ) DecodeError) → None ≡ result_ok r → (fault : DecodeError) × (r ≡ Err fault)
 read_failed (Ok y) e = absurd cc
 read_failed (Err fault) e = (fault, refl)
@@ -169,7 +169,7 @@ pub reached_next : (bytes rest : List ℕ) (entries : List Entry) (taken : ℕ) 
 reached_next bytes rest entries taken first entry count so_far rest_is is_first some =
     grind (arith, reached_step, drop-drop, length-append, spelled_all_push, all_push, append_assoc, entries_of-cons)
 
--- where no entry is first among the bytes that are left, all were reached
+-- if no entry is first among the bytes that are left, all were reached
 pub reached_last : (bytes rest : List ℕ) (entries : List Entry) (taken : ℕ) (first : Option (Entry × ℕ))
     → Reached bytes entries taken → rest ≡ drop taken bytes → IsFirst rest first → first ≡ None
     → Stand bytes entries (drop taken bytes) × (entries ≡ entries_of bytes)

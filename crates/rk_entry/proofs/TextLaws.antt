@@ -32,7 +32,7 @@ in_range_is lo hi n e = grind (arith, nat_tests)
 pub is_in_range_of : (lo hi n : ℕ) → lo ≤ n → n ≤ hi → is_in_range lo hi n ≡ true
 is_in_range_of lo hi n below above = grind (arith, nat_tests)
 
--- where a length is no fault it is within its limits
+-- if a length is no fault it is within its limits
 limits : (shortest longest n : ℕ) (fault other : Option TextError) (f : TextError) → fault ≡ Some f → cond (ltb n shortest || ltb longest n) fault other ≡ None → (shortest ≤ n) × (n ≤ longest)
 limits shortest longest n fault other f is e = grind (arith, nat_tests)
 
@@ -41,7 +41,7 @@ pub text_within : (shortest longest : ℕ) (bytes : List ℕ) → text_fault sho
 text_within shortest longest bytes e =
     limits shortest longest (length bytes) (Some (Length (length bytes))) (option_map Byte (bad_byte bytes)) (Length (length bytes)) refl e
 
--- where a text was read there were bytes enough
+-- if a text was read there were bytes enough
 enough : {A : Type 0} (b : Bool) (x y : Result A DecodeError) (z : A) → y ≡ Err Cut → cond b y x ≡ Ok z → (b ≡ false) × (x ≡ Ok z)
 enough true x y z cut e = absurd cc
 enough false x y z cut e = (refl, e)

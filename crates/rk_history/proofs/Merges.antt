@@ -56,7 +56,7 @@ journal_past [] lane past = refl
 journal_past (journal ∷ journals) zero past = absurd (omega (arith, past))
 journal_past (journal ∷ journals) (suc lane) past = journal_past journals lane (omega (arith, past))
 
--- where no lane has a record left there is no history left
+-- if no lane has a record left there is no history left
 pub merged_empty : (journals : List (List Placed)) → AreEmpty journals (length journals) → merged journals ≡ []
 merged_empty journals empty = grind (arith, merged_none, cases_lt, journal_past)
 
@@ -85,7 +85,7 @@ module _ (rest : List (List Placed)) (lane : ℕ) (placed : Placed) (later : Lis
   abbrev Follows : ℕ → Placed → Type 0
   Follows other one = is_before (line_of lane placed) (line_of other one) ≡ true
 
-  -- so it does where it comes before the first record of a journal
+  -- so it does if it comes before the first record of a journal
   follow_all : (other : ℕ) (journal : List Placed) → IsRisingAbove 0 journal
       → ((one : Placed) (behind : List Placed) → journal ≡ one ∷ behind → Follows other one) → All (Follows other) journal
   follow_all other [] rises first = All-nil (Follows other)

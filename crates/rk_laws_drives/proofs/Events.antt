@@ -21,7 +21,7 @@ use Rattle.rk_laws_lanes.specs.gathered.OpenCalls.{HasCountedCalls}
 use Rattle.rk_laws_lanes.proofs.gathered.Counting.{event_counted}
 use Rattle.rk_laws_drives.specs.Ready.{AreReady, StaysReady}
 
--- a lane becomes another good one that counted its calls, and was asked no other
+-- a lane becomes another good lane that counted its calls, and was asked no other
 module _ (masters : ℕ) (cluster : Cluster) (ready : AreReady masters cluster) (lane : ℕ) (inside : lane < length cluster.lanes) (new : World) where
   lanes_there : IsGoodLane masters lane new → (q : ℕ) → q < length (with_lane cluster lane new).lanes
       → IsGoodLane masters q (lane_at (with_lane cluster lane new) q)

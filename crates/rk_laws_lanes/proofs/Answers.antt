@@ -20,7 +20,7 @@ use Rattle.rk_laws_lanes.specs.GoodLane.{IsGoodLane}
 abbrev weight : Placed → ℕ
 weight placed = cond {A = ℕ} placed.accepted 1 0
 
--- where a record that was not accepted is, one more is counted
+-- once a record that was not accepted is, one more is counted
 one_more : (journal : List Placed) (place : ℕ) (placed : Placed) → slice_get journal place ≡ Some placed → placed.accepted ≡ false
     → count_by (λ placed. placed.accepted) (accepted_at journal place (Some placed)) ≡ count_by (λ placed. placed.accepted) journal + 1
 one_more [] place placed at none_yet = absurd (cc at)

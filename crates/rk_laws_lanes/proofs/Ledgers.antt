@@ -37,7 +37,7 @@ module _ (start : Ledger) where
 
 -- ---- events
 
--- as many calls were asked, and clients are the same where the event adds none
+-- as many calls were asked, and clients are the same if the event adds none
 record EventStays (w : World) (event : Event) (now : World) : Type 0 where
   pub asked : now.ledger.asked ≡ w.ledger.asked
   pub clients : AddsNoClient event → now.ledger.clients ≡ w.ledger.clients
@@ -80,7 +80,7 @@ same_clients w event called other client =
 
 -- ---- records
 
--- where none of these is accepted none is counted
+-- if none of these is accepted none is counted
 none_counted : (records : List Placed) → All (λ placed. placed.accepted ≡ false) records → count_by (λ placed. placed.accepted) records ≡ 0
 none_counted [] all = refl
 none_counted (placed ∷ records) all =

@@ -124,7 +124,7 @@ module _ (Keeps : Traffic → Type 0) (sent : (message : Message) (wire : Traffi
   event_keeps w (Event.Split tablet at new) called keeps = split w (row_of w.coordinator.rows tablet) at new keeps
   event_keeps w _ called keeps = keeps
 
-  -- one that is refused changes nothing
+  -- an event that is refused changes nothing
   pub step_keeps : (w : World) (event : Event) (called : Called) → Keeps w.wire → Keeps (after w (Happens event called)).wire
   step_keeps w event called keeps = go (refusal w event)
     where

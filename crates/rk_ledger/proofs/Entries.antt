@@ -13,11 +13,11 @@ use Rattle.rk_ledger.specs.declared.asked.Asked.{Asked}
 use Rattle.rk_types.proofs.Places.{first, second, get_below, insert_same}
 use Rattle.rk_ledger.specs.Clients.{asked_here, last_calls_of, requests_of, with_added, with_last, with_request, with_request_of}
 
--- the last call that an entry tells
+-- the last call that an entry records
 abbrev pub last_in : Asked → Option LastCall
 last_in asked = asked.last
 
--- the request that an entry tells, if there is one
+-- the request that an entry records, if there is one
 abbrev pub request_in : Option Asked → Option Message
 request_in None = None
 request_in (Some asked) = asked.request
@@ -34,7 +34,7 @@ pub get_last : (entries : NumberMap Asked) (client : ℕ) → get (last_calls_of
 get_last [] client = refl
 get_last (entry ∷ entries) client = grind (arith, entry.0, entry.1.last, entry.1, (get_last entries client))
 
--- a client has a last call where it has an entry
+-- a client has a last call if it has an entry
 pub same_added : (entries : NumberMap Asked) (client : ℕ) → is_some (get (last_calls_of entries) client) ≡ is_some (get entries client)
 same_added entries client = grind (arith, get_last)
 
@@ -55,7 +55,7 @@ below_requests client (entry ∷ entries) below = go entry.1.request (first _ _ 
     go None less rest = rest
     go (Some request) less rest = both _ _ less rest
 
--- the requests stand by rising client
+-- the requests are in rising order of their clients
 pub requests_order : (entries : NumberMap Asked) → IsInOrder entries → IsInOrder (requests_of entries)
 requests_order [] order = tt
 requests_order (entry ∷ entries) order = go entry.1.request (below_requests entry.0 entries (first _ _ order)) (requests_order entries (second _ _ order))
@@ -118,9 +118,9 @@ keep_request entries client asked order is =
       asked.request,
     )
 
--- ---- what is told of a client
+-- ---- what is recorded of a client
 
--- the last call that an entry tells, if there is one
+-- the last call that an entry records, if there is one
 abbrev pub last_call_in : Option Asked → Option LastCall
 last_call_in None = None
 last_call_in (Some asked) = asked.last

@@ -16,7 +16,7 @@ FoundAfter old new client seq noted =
 pub noted_after : (old new : CallIndex) (client seq : ℕ) (noted : Noted) → FoundAfter old new client seq noted → IsNoted old new client seq noted
 noted_after old new client seq noted found_after = grind (arith, eqb)
 
--- where the index finds what it found
+-- if the index finds what it found
 pub noted_same : (old new : CallIndex) → ((client seq : ℕ) → found_in new client seq ≡ found_in old client seq) → NotesTheSame old new
 noted_same old new found = grind arith
 
@@ -25,7 +25,7 @@ and_both : (a b : Bool) → (a && b) ≡ true → (a ≡ true) × (b ≡ true)
 and_both true b both = (refl, both)
 and_both false b both = absurd (false≢true both)
 
--- two that are one have one answer, where the other was noted last
+-- of two names that are equal, both were noted last or neither was
 same_name : (last : OfCall) (client seq other asked : ℕ) → (eqb client other && eqb seq asked) ≡ true
     → is_of_name last other asked ≡ is_of_name last client seq
 same_name last client seq other asked same = grind (arith, and_both, eqb, eqb-true)

@@ -24,7 +24,7 @@ pub same_name : (P : ℕ → ℕ → Type 0) (client seq other asked : ℕ) → 
     → P client seq → P other asked
 same_name P client seq other asked same holds = grind (arith, and_parts, eqb, eqb-true)
 
--- something passes where more than none do
+-- something passes if more than none do
 pub some_counted : {X : Type 0} (p : X → Bool) (xs : List X) → nat_lt 0 (count_by p xs) ≡ list_any p xs
 some_counted p [] = refl
 some_counted p (x ∷ xs) = ap (λ n. nat_lt 0 n) (sum_by-cons (λ y. cond (p y) 1 0) x xs) ∙ go (p x) (count_by p xs) (some_counted p xs)
@@ -52,7 +52,7 @@ tried note place mutation accepted = record { place = known_or note.place mutati
 noted_back : (note : Noted) (placed : Placed) (place : ℕ) → unless_at note.place place ≡ note.place → without_record (with_record note placed place) placed place ≡ note
 noted_back note placed place free = grind (arith, eq-eqb)
 
--- no record stands at the place behind them all
+-- no record is at the place behind them all
 free_behind : (records : List Placed) (placed : Placed) (client seq : ℕ) → unless_at (position (is_of_mutation client seq) records) (length records) ≡ position (is_of_mutation client seq) records
 free_behind records placed client seq = grind (arith, position-Some, ne_eqb)
 
@@ -63,7 +63,7 @@ module _ (records : List Placed) (placed : Placed) where
   abbrev seq : ℕ
   seq = placed.call.seq
 
-  -- what is to be noted once it stands at the end: of its call one record more, of another what there was
+  -- what is to be noted once it is at the end: of its call one record more, of another what there was
   pub noted_push : (other asked : ℕ)
       → noted (records ++ placed ∷ []) other asked
       ≡ cond (eqb client other && eqb seq asked) (with_record (noted records client seq) placed (length records)) (noted records other asked)

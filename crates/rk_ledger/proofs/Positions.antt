@@ -7,12 +7,12 @@ use Rattle.std.proofs.lemmas.List.Folds.{position_or_len_push}
 use Rattle.std.proofs.lemmas.List.Sums.{prefix_len-le-length}
 use Rattle.rk_ledger.specs.Noted.{known_or}
 
--- where the test fails, the place stays
+-- if the test fails, the place stays
 pub known_stays : (known : Option ℕ) (place : ℕ) → known_or known false place ≡ known
 known_stays None place = refl
 known_stays (Some known) place = refl
 
--- the first place among n, where the search in them stopped at i, and then one more is tested
+-- the first place among n, if the search in them stopped at i, and then one more is tested
 one_more : (i n : ℕ) (holds : Bool) → i ≤ n
     → cond (ltb (cond (eqb i n) (n + cond holds 0 1) i) (n + 1)) (Some (cond (eqb i n) (n + cond holds 0 1) i)) None
     ≡ known_or (cond (ltb i n) (Some i) None) holds n
@@ -20,7 +20,7 @@ one_more i n true within = grind (arith, nat_tests)
 one_more i n false within = grind (arith, nat_tests)
 
 module _ {X : Type 0} (p : X → Bool) where
-  -- the first place, once one more thing stands at the end
+  -- the first place, once one more thing is at the end
   pub position_push : (xs : List X) (x : X) → position p (xs ++ x ∷ []) ≡ known_or (position p xs) (p x) (length xs)
   position_push xs x = grind (arith, ltb, position_or_len_push, length_push, one_more, prefix_len-le-length)
 

@@ -4,7 +4,7 @@ use Rattle.std.specs.List.{slice_get}
 use Rattle.rk_types.specs.declared.history.Placed.{Placed}
 use Rattle.rk_world.specs.Journal.{last_stamp, last_stamp_from}
 
--- the stamp of a record, 0 where there is none
+-- the stamp of a record, 0 if there is none
 abbrev pub stamp_of : Option Placed → ℕ
 stamp_of None = 0
 stamp_of (Some placed) = placed.stamp

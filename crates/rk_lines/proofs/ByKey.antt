@@ -62,7 +62,7 @@ module _ (test : Held → Bool) where
   not_before_kept item [] all = tt
   not_before_kept item (other ∷ items) all = grind (arith, all.1, all.0, (not_before_kept item items all.1))
 
--- the first of items that rise does not come after one that a test leaves first of others, of which it leaves the same
+-- the first of items that rise does not come after the first of others, if the test for ties with that one leaves the same of both
 not_after_first :
     (x y : Held) (xs ys : List Held) → Rises (y ∷ ys) → filter (ties_with x) (x ∷ xs) ≡ filter (ties_with x) (y ∷ ys) → is_before x y ≡ false
 not_after_first x y xs ys rises same =
@@ -71,7 +71,7 @@ not_after_first x y xs ys rises same =
     ap (λ b. cond b (x ∷ filter (ties_with x) xs) (filter (ties_with x) xs)) (ties_with_itself x) in
     (subst (AreNotBefore y) (sym same ∙ first) all).0
 
--- where tests that both hold leave the same, they leave the same behind the first item
+-- if a test leaves the same of two lists with the same first item, it leaves the same behind that item
 same_behind : (b : Bool) (x y : Held) (xs ys : List Held) → x ≡ y → cond b (x ∷ xs) xs ≡ cond b (y ∷ ys) ys → xs ≡ ys
 same_behind b x y xs ys first same = grind arith
 
@@ -111,7 +111,7 @@ not_before_put : (first item : Held) (items : List Held) → is_before item firs
 not_before_put first item [] its all = (its, tt)
 not_before_put first item (other ∷ items) its all = grind (arith, all.1, all.0, (not_before_put first item items its all.1))
 
--- what comes not before one that an item is not behind comes not before that item
+-- what is not before an item, which is not before another, is not before that other one
 not_before_chain : (item first : Held) (items : List Held) → is_before first item ≡ false → AreNotBefore first items → AreNotBefore item items
 not_before_chain item first [] its all = tt
 not_before_chain item first (other ∷ items) its all = grind (arith, key_order, all.0, all.1, (not_before_chain item first items its all.1))

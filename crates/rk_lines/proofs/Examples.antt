@@ -49,7 +49,7 @@ tablet_lines-lanes = refl
 abbrev item : List ℕ → ℕ → Option (List ℕ) → Held
 item key version value = record { table = 1; version = version; client = 1; seq = 1; key = key; value = value }
 
--- records are told by key, and a tombstone is none
+-- records are shown by key, and a tombstone is none
 pub record_lines-by_key :
     record_lines (item (codes "b") 12 (Some (codes "x")) ∷ item (codes "ab") 2 (Some []) ∷ item (codes "c") 3 None ∷ item (codes "a") 1 (Some (codes "x")) ∷ [])
     ≡ codes "record a 1 x\nrecord ab 2\nrecord b 12 x\n"

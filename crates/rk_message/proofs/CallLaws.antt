@@ -43,7 +43,7 @@ record IsAsked (number table size : ℕ) (asked : Asked) : Type 0 where
   op : IsLawfulOp asked.op
   size_is : size ≡ REQUEST_BYTES + length asked.key + op_count asked.op
 
--- what stands after the number and the table
+-- what comes after the number and the table
 key_and_op : Asked → List ℕ
 key_and_op asked = key_bytes asked.key ++ op_bytes asked.op
 
@@ -151,7 +151,7 @@ op_again table size key Delete rest text lawful is =
     let whole : size ≡ REQUEST_BYTES + length key = omega (arith, is) in
     rw (append-nil (key_bytes key), (last_key_codec REQUEST_BYTES size).again key rest (text, whole)) refl
 
--- what stands after the key takes as many bytes as are counted
+-- what comes after the key takes as many bytes as are counted
 length-op_bytes : (op : Op) → length (op_bytes op) ≡ op_count op
 length-op_bytes op = grind (arith, length-value_bytes, length-append, length-number_bytes)
 
@@ -229,7 +229,7 @@ version_takes number answer size bytes x spells told e =
     (subst (λ (t : List ℕ). Takes bytes t a.0.1 (IsTold number size (answer a.0.0))) (sym (spells a.0.0))
     (takes_weaker (λ (h : IsNumber w64 0 a.0.0 × (size ≡ REPLY_BYTES + 8)). told a.0.0 h.0 h.1) ((last_number_codec w64 wide64 (REPLY_BYTES + 8) size).takes bytes a.0 a.1)))
 
--- a tablet that is read is the one that has moved
+-- a tablet that is read is the tablet that has moved
 moved_takes : (size : ℕ) (bytes : List ℕ) (x : Answer × List ℕ) → read_moved size bytes ≡ Ok x → Takes bytes (told_bytes x.0) x.1 (IsTold MOVED size x.0)
 unfolding read_moved
 moved_takes size bytes x e =
@@ -238,7 +238,7 @@ moved_takes size bytes x e =
     (takes_weaker (λ (h : IsNumber w32 0 a.0.0 × (size ≡ REPLY_BYTES + 4)). record { number_is = refl; lawful = h.0; size_is = h.1 })
     ((last_number_codec w32 wide32 (REPLY_BYTES + 4) size).takes bytes a.0 a.1))
 
--- a key that is read is the one that has not arrived
+-- a key that is read is the key that has not arrived
 not_yet_takes : (size : ℕ) (bytes : List ℕ) (x : Answer × List ℕ) → read_not_yet size bytes ≡ Ok x → Takes bytes (told_bytes x.0) x.1 (IsTold NOT_YET size x.0)
 unfolding read_not_yet
 not_yet_takes size bytes x e =

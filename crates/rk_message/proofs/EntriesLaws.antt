@@ -76,7 +76,7 @@ all_parts : (entries : List Entry) (entry : Entry) → AllByRecursion IsLawfulEn
 all_parts [] entry each = (tt, each.0)
 all_parts (first ∷ entries) entry each = let parts = all_parts entries entry each.1 in ((each.0, parts.0), parts.1)
 
--- where there are some, there is a last
+-- if there are some, there is a last
 last_of : (entry : Entry) (entries : List Entry) → (front : List Entry) × (last : Entry) × (entry ∷ entries ≡ front ++ last ∷ [])
 last_of entry [] = ([], entry, refl)
 last_of entry (next ∷ entries) =

@@ -55,7 +55,7 @@ record IsNode (kind number : ℕ) (node : Node) : Type 0 where
   number_is : number ≡ node_number node
   lawful : IsLawfulNode node
 
--- where two tests hold together, each holds
+-- if two tests hold together, each holds
 both_true : (a b : Bool) → (a && b) ≡ true → (a ≡ true) × (b ≡ true)
 both_true true b e = (refl, e)
 both_true false b e = absurd cc

@@ -209,7 +209,7 @@ kind_again kind rest =
     let fits : IsNumber w8 0 (kind_number kind) = record { least_is = omega arith; fits = omega (arith, found.0) } in
     rw ((number_codec w8 wide8).again (kind_number kind) rest fits, found.1) refl
 
--- where two tests hold together, each holds
+-- if two tests hold together, each holds
 both_true : (a b : Bool) → not (a && b) ≡ false → (not a ≡ false) × (b ≡ true)
 both_true a b e = grind arith
 
@@ -327,7 +327,7 @@ one_framed a b x y ha hb same =
     let read = ok_is (a, x) (b, y) (sym (frame_again a x ha) ∙ ap read_frame same ∙ frame_again b y hb) in
     (ap (λ (z : Message × List ℕ). z.0) read, ap (λ (z : Message × List ℕ). z.1) read)
 
--- what was read stands before the rest
+-- what was read comes before the rest, which is no longer than the bytes
 pub frame_shorter : (bytes : List ℕ) (message : Message) (rest : List ℕ) → read_frame bytes ≡ Ok (message, rest) → length rest ≤ length bytes
 frame_shorter bytes message rest read =
     let taken = frame_takes bytes (message, rest) read in
@@ -340,7 +340,7 @@ rest_after bytes message rest read =
     let k : length (taken.front ++ rest) - length rest ≡ length taken.front = omega (arith, length-append taken.front rest) in
     rw (taken.split, k) (drop_at taken.front rest (length taken.front) refl)
 
--- what is read stands first
+-- a message that is read comes first in the bytes
 pub stands_first : (bytes : List ℕ) (message : Message) (rest : List ℕ) → IsBytes bytes → read_frame bytes ≡ Ok (message, rest) → StandsFirst bytes message (length bytes - length rest)
 stands_first bytes message rest fits read =
     let taken = frame_takes bytes (message, rest) read in

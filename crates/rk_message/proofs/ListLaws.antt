@@ -18,7 +18,7 @@ use Rattle.rk_message.specs.declared.fields.TheConstants.{COUNT_BYTES}
 use Rattle.rk_message.specs.Fields.{read_bytes, counted_bytes, read_last_count, read_last_bytes, elements_bytes, list_bytes, read_list, read_last_list}
 use Rattle.rk_message.proofs.Codecs.{IsCodec}
 
--- where something was read there were bytes enough
+-- if something was read there were bytes enough
 enough : {A : Type 0} (b : Bool) (x y : A) → cond b (Err Cut) (Ok x) ≡ Ok y → (b ≡ false) × (x ≡ y)
 enough true x y e = absurd cc
 enough false x y e = (refl, cc)
@@ -28,7 +28,7 @@ not_false : (b : Bool) → not b ≡ false → b ≡ true
 not_false true e = refl
 not_false false e = absurd cc
 
--- what was read where a body was as long as was asked for
+-- what was read, if a body was as long as was asked for
 pub body_was : {A : Type 0} (count body : ℕ) (x y : A) → where_body_is count body x ≡ Ok y → (body ≡ count) × (x ≡ y)
 body_was count body x y e = grind (arith, unless_ok, eqb, eqb-true, not_false)
 

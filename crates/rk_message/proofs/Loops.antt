@@ -46,7 +46,7 @@ list_fails read (Bad code) count i before bytes whole more failed so_far =
     sym so_far ∙ one
 list_fails read NoMemory count i before bytes whole more failed so_far = tt
 
--- where no element is left to be read, those that were read are the whole
+-- if no element is left to be read, those that were read are the whole
 pub list_done : {A : Type 0} (read : List ℕ → Result (A × List ℕ) DecodeError) (count i : ℕ) (before : List A) (bytes : List ℕ) (whole : Result (List A × List ℕ) DecodeError)
     → count ≤ i → behind before (read_list read (count - i) bytes) ≡ whole → whole ≡ Ok (before, bytes)
 unfolding read_list
@@ -61,7 +61,7 @@ pub element_room : {A : Type 0} (bytes : A → List ℕ) (count : A → ℕ) (xs
 element_room bytes count xs i x old now more is room so_far =
     omega (arith, room, so_far.longer, so_far.capacity, sum_by_more_le count xs i x more, ap count is)
 
--- after the next element, one element more stands at the end
+-- after the next element, one element more is at the end
 pub element_gains : {A : Type 0} (bytes : A → List ℕ) (count : A → ℕ) (xs : List A) (i : ℕ) (x : A) (old now after : Vec ℕ)
     → i < length xs → x ≡ get_or xs i x → Gains old now (elements_bytes bytes (take i xs)) (sum_by count (take i xs)) → Gains now after (bytes x) (count x)
     → Gains old after (elements_bytes bytes (take (i + 1) xs)) (sum_by count (take (i + 1) xs))

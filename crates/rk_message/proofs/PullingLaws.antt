@@ -29,7 +29,7 @@ pull_codec = fields2 (λ p. record { tenure = p.0; token = p.1 }) (λ y. (y.tenu
 
 -- ---- Pulled
 
--- a Pulled whose length is told
+-- a Pulled whose length is given
 pub pulled_codec : (size : ℕ) → size < 256 ^ 4 → IsCodec pulled_bytes pulled_count (λ pulled. IsLawfulPulled pulled × (size ≡ pulled_count pulled)) (read_pulled size)
 unfolding pulled_bytes read_pulled
 pulled_codec size small =
@@ -43,7 +43,7 @@ pulled_size pulled h = grind (arith, or_left, eqb, eq-eqb, or_right, leb, le-leb
 
 -- ---- Want
 
--- a Want whose length is told
+-- a Want whose length is given
 pub want_codec : (size : ℕ) → size < 256 ^ 4 → IsCodec want_bytes want_count (λ want. IsLawfulWant want × (size ≡ want_count want)) (read_want size)
 unfolding want_bytes read_want
 want_codec size small =
@@ -69,7 +69,7 @@ hash_count_codec size =
       counted = number.counted;
     }
 
--- a Got whose length is told
+-- a Got whose length is given
 pub got_codec : (size : ℕ) → size < 256 ^ 4 → IsCodec got_bytes got_count (λ got. IsLawfulGot got × (size ≡ got_count got)) (read_got size)
 unfolding got_bytes read_got list_bytes
 got_codec size small = record {

@@ -29,7 +29,7 @@ pub member_codec : IsCodec member_bytes (λ member. MEMBER_BYTES) IsLawfulMember
 unfolding member_bytes read_member
 member_codec = fields2 (λ p. record { master = p.0; from = p.1 }) (λ y. (y.master, y.from)) (λ p. refl) (λ y. refl) (number_codec w8 wide8) (number_codec w64 wide64)
 
--- a Rebuild whose length is told
+-- a Rebuild whose length is given
 pub rebuild_codec : (size : ℕ) → size < 256 ^ 4 → IsCodec rebuild_bytes rebuild_count (λ rebuild. IsLawfulRebuild rebuild × (size ≡ rebuild_count rebuild)) (read_rebuild size)
 unfolding rebuild_bytes read_rebuild
 rebuild_codec size small =
@@ -106,7 +106,7 @@ kept_bytes_codec false count = record {
         some : true ≡ false → ⊥
         some e = cc
 
--- what a Copy tells of its segment
+-- what a Copy carries of its segment
 kept_codec : (size : ℕ) → size < 256 ^ 4 → IsCodec kept_bytes (λ segment. 1 + COUNT_BYTES + length (kept segment)) (λ segment. size ≡ COPY_BYTES + length (kept segment)) (read_kept size)
 unfolding kept_bytes counted_bytes read_kept
 kept_codec size small =
@@ -114,7 +114,7 @@ kept_codec size small =
     (then_codec is_some present_codec (λ present segment h. h.1.1)
     (λ present. then_codec (λ segment. length (kept segment)) (last_count_codec COPY_BYTES size small) (λ count segment h. h.0) (kept_bytes_codec present)))
 
--- a Copy whose length is told
+-- a Copy whose length is given
 pub copy_codec : (size : ℕ) → size < 256 ^ 4 → IsCodec copy_bytes copy_count (λ copy. IsLawfulCopy copy × (size ≡ copy_count copy)) (read_copy size)
 unfolding copy_bytes read_copy
 copy_codec size small =
@@ -124,7 +124,7 @@ copy_codec size small =
 
 -- ---- Rebuilt
 
--- a Rebuilt whose length is told
+-- a Rebuilt whose length is given
 pub rebuilt_codec : (size : ℕ) → size < 256 ^ 4 → IsCodec rebuilt_bytes rebuilt_count (λ rebuilt. IsLawfulRebuilt rebuilt × (size ≡ rebuilt_count rebuilt)) (read_rebuilt size)
 unfolding rebuilt_bytes read_rebuilt
 rebuilt_codec size small =

@@ -77,7 +77,7 @@ numbered_answered journals before after lane placed receipt answered numbered cl
     (λ (apart : client ≢ placed.call.client). rw (answered.kept.others client apart) (numbered client))
     (cases_eq client placed.call.client)
 
--- an accepted record has the parts that its receipt tells
+-- an accepted record has the parts that its receipt states
 recorded_as :
     (lane : ℕ) (placed : Placed) (receipt : Receipt)
     → placed.accepted ≡ true → told_by receipt ≡ answer_of (record { lane = lane; placed = placed })
@@ -114,7 +114,7 @@ recorded_answered journals before after lane placed receipt answered recorded cl
     (λ (apart : client ≢ placed.call.client). rw (answered.kept.others client apart) (still client))
     (cases_eq client placed.call.client)
 
--- the accepted lines of each caller are still what its receipts tell
+-- the accepted lines of each caller are still what its receipts state
 answered_answered :
     (journals : List (List Placed)) (history : List Line) (before after : ℕ → Caller)
     (lane : ℕ) (placed : Placed) (receipt : Receipt)
@@ -171,7 +171,7 @@ not_yet_there journals before after lane placed receipt answered ordered place l
     cc)
     (cases_Bool line.placed.accepted)
 
--- no mutation stands twice with one more line, whose mutation was not there
+-- no mutation occurs twice with one more line, whose mutation was not there
 once_push :
     (history : List Line) (last : Line)
     → ((i j : ℕ) (a b : Line) → slice_get history i ≡ Some a → slice_get history j ≡ Some b
@@ -224,7 +224,7 @@ asked_answered journals history before after lane placed receipt answered settle
     absurd (cc))
     (slice_get_push_cases history last line i there)
 
--- an ordered history stays so when a caller's next call is recorded with the latest stamp, accepted and told
+-- an ordered history stays so when a caller's next call is recorded with the latest stamp, accepted and answered
 pub ordered_answered :
     (journals : List (List Placed)) (before after : ℕ → Caller) (lane : ℕ) (placed : Placed) (receipt : Receipt)
     → IsOrdered journals (merged journals) before
@@ -246,7 +246,7 @@ ordered_answered journals before after lane placed receipt ordered answered =
     } in
     subst (λ (h : List Line). IsOrdered (appended journals lane placed) h after) (sym grown) then'
 
--- where a caller has no call outstanding, all that is recorded of it is accepted
+-- if a caller has no call outstanding, all that is recorded of it is accepted
 pub settled_if_idle :
     (journals : List (List Placed)) (history : List Line) (callers : ℕ → Caller) (client : ℕ)
     → IsOrdered journals history callers → (callers client).outstanding ≡ None → IsSettled client history
@@ -261,7 +261,7 @@ settled_if_idle journals history callers client ordered idle =
     ap (λ (c : ℕ). (callers c).outstanding) own ∙ idle in
     absurd (cc)))
 
--- where all that the journals have of a client is accepted, all that is recorded of it is
+-- if all that the journals have of a client is accepted, all that is recorded of it is
 pub settled_if_accepted :
     (journals : List (List Placed)) (client : ℕ)
     → ((lane : ℕ) → All (λ placed. placed.call.client ≡ client → placed.accepted ≡ true) (journal_of journals lane))
@@ -269,7 +269,7 @@ pub settled_if_accepted :
 settled_if_accepted journals client accepted =
     All-merged (λ (placed : Placed). placed.call.client ≡ client → placed.accepted ≡ true) journals accepted
 
--- what the callers have for receipts is as before where one of them asks a call
+-- the callers' receipts are as before when one of them asks a call
 pub receipts_asked :
     (before after : ℕ → Caller) (client : ℕ) (call : Call)
     → KeepsNow before after client (record { receipts = (before client).receipts; outstanding = Some call })

@@ -52,7 +52,7 @@ put_before_last line last (first ∷ lines) before =
     ≡ cond b (line ∷ first ∷ lines) (first ∷ put_in_order line lines) ++ last ∷ [])
     [ true ↦ refl | false ↦ ap (λ rest. first ∷ rest) (put_before_last line last lines before) ]
 
--- a line later than all others comes last, wherever it stood
+-- a line later than all others comes last, wherever it was
 in_order_last :
     (last : Line) (front back : List Line)
     → All (IsEarlier last.placed.stamp) front → All (IsEarlier last.placed.stamp) back
@@ -168,7 +168,7 @@ in_order_put_into last lines more earlier put =
     (all_front (IsEarlier last.placed.stamp) put.front put.back parts)
     (all_back (IsEarlier last.placed.stamp) put.front put.back parts))
 
--- a record that is kept and has the latest stamp, at the end of its lane's journal, stands last in the merged history
+-- a record that is kept and has the latest stamp, at the end of its lane's journal, comes last in the merged history
 pub merged_appended :
     (journals : List (List Placed)) (lane : ℕ) (placed : Placed)
     → lane < length journals → IsLatest placed.stamp journals → is_kept placed ≡ true

@@ -22,7 +22,7 @@ is_at-swap :
     (a b : Placed) → is_at a.call.table a.call.key b ≡ is_at b.call.table b.call.key a
 is_at-swap a b = name-swap b.call.table a.call.table b.call.key a.call.key
 
--- records of other keys are legal from the one map where they are from the other
+-- records of other keys are legal from the one map if they are from the other
 pub legal_apart :
     (placed : Placed) (m n : Map) (back : List Placed)
     → AgreeApart placed m n → records_at placed.call.table placed.call.key back ≡ [] → IsLegal m back → IsLegal n back

@@ -35,7 +35,7 @@ write_then_read = (lit< tt, (refl, tt))
 left_by_them : live_after empty_map (written ∷ placed_at 2 true Get (Found 1 (codes "x")) ∷ []) 1 (codes "a") ≡ Some (1, codes "x")
 left_by_them = refl
 
--- the first byte that a read told, 0 where it told none
+-- the first byte that a read returned, 0 if it returned none
 abbrev first_byte : Outcome → ℕ
 first_byte (Found version value) = get_or value 0 0
 first_byte _ = 0

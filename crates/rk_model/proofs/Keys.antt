@@ -36,7 +36,7 @@ is_at_parts table key placed here =
     let parts = and_parts (eqb placed.call.table table) (bytes_eq placed.call.key key) here in
     (eqb-true placed.call.table table parts.0, (bytes_eq-Decides placed.call.key key).0 parts.1)
 
--- what is allowed where a map has an entry is allowed where another map has that entry
+-- what is allowed at a key by one map is allowed by another map with the same entry there
 pub allowed_same :
     (m n : Map) (table : ℕ) (key : List ℕ) (placed : Placed)
     → is_at table key placed ≡ true → m table key ≡ n table key → IsAllowedIn m placed → IsAllowedIn n placed
@@ -115,7 +115,7 @@ legal_at m table key (placed ∷ history) legal =
     rw apart (legal_same (map_with m placed) m table key history (map_with-other m placed table key apart) rest))
     (cases_Bool (is_at table key placed))
 
--- a history is legal where the records of each key are
+-- a history is legal if the records of each key are
 pub legal_from_keys :
     (m : Map) (history : List Placed)
     → ((table : ℕ) (key : List ℕ) → IsLegal m (records_at table key history)) → IsLegal m history

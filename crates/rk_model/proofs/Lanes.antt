@@ -126,7 +126,7 @@ lines_from_records P (line ∷ lines) each =
     (λ (apart : line.lane ≢ lane). subst (All (P lane)) (other_records lane line lines apart) (each lane))
     (cases_eq line.lane lane)))
 
--- where all lines of a key are of one lane, the records of the key are those among the records of that lane
+-- if all lines of a key are of one lane, the records of the key are those among the records of that lane
 records_at_lane :
     (table : ℕ) (key : List ℕ) (lane : ℕ) (lines : List Line)
     → All (λ line. is_at table key line.placed ≡ true → line.lane ≡ lane) lines
@@ -146,7 +146,7 @@ records_at_lane table key lane (line ∷ lines) own =
     (cases_Bool (eqb line.lane lane)))
     (cases_Bool (is_at table key line.placed))
 
--- where each journal has the keys of its own lane, the merged history has of a key what the journal of its lane has
+-- if each journal has the keys of its own lane, the merged history has of a key what the journal of its lane has
 records_at_merged :
     (journals : List (List Placed)) (history : List Line) (table : ℕ) (key : List ℕ)
     → IsMergedFrom journals history → ((lane : ℕ) → HasOwnKeys lane (journal_of journals lane))

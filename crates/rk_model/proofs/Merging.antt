@@ -65,7 +65,7 @@ put_other lane line (first ∷ lines) other =
     rw after (ap (λ rest. cond (own first) (first ∷ rest) rest) (put_other lane line lines other)))
     (cases_Bool (is_before line first))
 
--- and one of that lane comes first among them, where it precedes them
+-- and a line of that lane comes first among them, if it precedes them
 put_own :
     (lane : ℕ) (line : Line) (lines : List Line)
     → eqb line.lane lane ≡ true → All (Precedes line) lines
@@ -237,7 +237,7 @@ records_in-lines_from first (suc lane) (journal ∷ journals) =
     ∙ ap (λ l. records_in l (lines_from (first + 1) journals)) (sym moved)
     ∙ records_in-lines_from (first + 1) lane journals
 
--- the merged history is merged from its journals, where their stamps rise
+-- the merged history is merged from its journals, if their stamps rise
 pub merged-IsMergedFrom :
     (journals : List (List Placed))
     → ((lane : ℕ) → IsRisingAbove 0 (journal_of journals lane)) → IsMergedFrom journals (merged journals)

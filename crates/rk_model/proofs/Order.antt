@@ -18,7 +18,7 @@ before_by_stamp a b h = grind (arith, nat_tests, a.placed.stamp, a.lane, b.place
 pub not_before_by_stamp : (a b : Line) → b.placed.stamp < a.placed.stamp → is_before a b ≡ false
 not_before_by_stamp a b h = grind (arith, nat_tests, a.placed.stamp, a.lane, b.placed.stamp, b.lane)
 
--- an accepted record stands in the merged history
+-- an accepted record is in the merged history
 pub kept_if_accepted : (placed : Placed) → placed.accepted ≡ true → is_kept placed ≡ true
 kept_if_accepted placed accepted = or_left placed.accepted (is_mutation placed.call.op) accepted
 
@@ -36,11 +36,11 @@ either_first s l t m apart second = grind (arith, nat_tests)
 pub before-asymmetric : (a b : Line) → is_before a b ≡ true → is_before b a ≡ true → ⊥
 before-asymmetric a b first second = grind (arith, nat_tests, a.placed.stamp, a.lane, b.placed.stamp, b.lane)
 
--- a line before one that is before a third is before the third
+-- a line before another, which is before a third, is before the third
 pub before-transitive : (a b c : Line) → is_before a b ≡ true → is_before b c ≡ true → is_before a c ≡ true
 before-transitive a b c first second =
     transitive a.placed.stamp a.lane b.placed.stamp b.lane c.placed.stamp c.lane first second
 
--- of two lines of different lanes the second comes before the first, where the first does not come before the second
+-- of two lines of different lanes the second comes before the first, if the first does not come before the second
 pub before-either : (a b : Line) → (a.lane ≡ b.lane → ⊥) → is_before a b ≡ false → is_before b a ≡ true
 before-either a b apart second = either_first a.placed.stamp a.lane b.placed.stamp b.lane apart second

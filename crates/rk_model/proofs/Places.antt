@@ -7,7 +7,7 @@ use Rattle.std.specs.Prelude.{All, map, filter, slice_get}
 use Rattle.rk_types.specs.declared.history.Placed.{Placed}
 use Rattle.rk_model.specs.Merged.{journal_of, appended}
 
--- what stands in a list stands there with more behind it
+-- what is in a list is at the same place with more behind it
 pub slice_get_front :
     {A : Type 0} (xs ys : List A) (place : ℕ) (x : A)
     → slice_get xs place ≡ Some x → slice_get (xs ++ ys) place ≡ Some x
@@ -15,12 +15,12 @@ slice_get_front [] ys place x there = cc
 slice_get_front (y ∷ xs) ys zero x there = there
 slice_get_front (y ∷ xs) ys (suc place) x there = slice_get_front xs ys place x there
 
--- the last element stands at the length of what is before it
+-- the last element is at the place that is the length of what comes before it
 pub slice_get_end : {A : Type 0} (xs : List A) (x : A) → slice_get (xs ++ x ∷ []) (length xs) ≡ Some x
 slice_get_end [] x = refl
 slice_get_end (y ∷ xs) x = slice_get_end xs x
 
--- what stands in a list with one more element stood there before, or is that element at the end
+-- what is in a list with one more element was there before, or is that element at the end
 pub slice_get_push_cases :
     {A : Type 0} (xs : List A) (x y : A) (place : ℕ)
     → slice_get (xs ++ x ∷ []) place ≡ Some y → (slice_get xs place ≡ Some y) ⊎ ((place ≡ length xs) × (x ≡ y))
@@ -81,7 +81,7 @@ each_appended P journals lane placed in_range each here other =
     subst (P other) (sym (journal_of-other journals lane other placed apart)) (each other))
     (cases_eq other lane)
 
--- what stands in a lane's journal stands there still after one more record of any lane
+-- what is in a lane's journal is still there after one more record of any lane
 pub journal_of-keeps :
     (journals : List (List Placed)) (lane other place : ℕ) (placed x : Placed)
     → lane < length journals → slice_get (journal_of journals other) place ≡ Some x

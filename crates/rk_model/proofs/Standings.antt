@@ -12,11 +12,11 @@ use Rattle.rk_model.specs.declared.replay.Standing.{Standing}
 use Rattle.rk_model.specs.History.{Map, with_entry}
 use Rattle.rk_model.specs.Standing.{Name, StandsFor, entry_of, entry_found, name_cmp}
 
--- numbers compare as equal where they are
+-- numbers compare as equal if they are
 same_number : (a b : ℕ) → is_eq (nat_cmp a b) ≡ eqb b a
 same_number a b = grind (arith, nat_tests)
 
--- two names are one where their tables are, and their keys
+-- two names are equal if their tables are, and their keys
 same_name : (a b : Name) → is_eq (name_cmp a b) ≡ (eqb b.0 a.0 && bytes_eq b.1.now a.1.now)
 same_name a b =
     grind (arith, tied_then, nat_cmp, slice_cmp, is_eq, same_number, eqb, is_eq-slice_cmp, bytes_eq-swap, a.0, b.0, a.1.now, b.1.now)
@@ -27,7 +27,7 @@ found_choice :
 found_choice true x y = refl
 found_choice false x y = refl
 
--- with another standing at a name, the standings stand for the map with that entry there
+-- with another standing at a name, the standings represent the map with that entry there
 pub stands_with :
     (old new : BTreeMap Name Standing) (map : Map) (name : Name) (standing : Standing)
     → StandsFor old map → Updates name_cmp old new name (Some standing)

@@ -14,7 +14,7 @@ take_read :
 take_read history place placed within read =
     take_more history place placed within ∙ ap (λ (p : Placed). take place history ++ p ∷ []) (sym read)
 
--- they are legal where those before are, and the map after those allows this one
+-- they are legal if those before are, and the map after those allows this one
 pub legal_more :
     (history : List Placed) (place : ℕ) (placed : Placed)
     → place < length history → placed ≡ get_or history place placed
@@ -34,7 +34,7 @@ map_after_more history place placed within read =
     ap (map_after empty_map) (take_read history place placed within read)
     ∙ map_after-append empty_map (take place history) (placed ∷ [])
 
--- what an entry allows is allowed where that entry stands
+-- what an entry allows is allowed where the map has that entry
 pub allowed_at :
     (map : Map) (placed : Placed) (entry : Entry)
     → entry ≡ map placed.call.table placed.call.key → Allowed entry placed.call.op placed.outcome → IsAllowedIn map placed

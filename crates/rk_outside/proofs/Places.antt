@@ -18,7 +18,7 @@ use Rattle.rk_outside.specs.Replicas.{place_cmp, SegmentMap, segments_in, by_num
 place_cmp_total : IsTotalOrder place_cmp
 place_cmp_total = then_total (on_total (λ p. p.0) nat_cmp_total) (on_total (λ p. p.1) nat_cmp_total)
 
--- two places tie only where they are equal
+-- two places tie only if they are equal
 same_place : (a b m s : ℕ) (first second : Ordering) → nat_cmp a m ≡ first → nat_cmp b s ≡ second → ordering_then first second ≡ Equal → ◌≡◌ {A = ℕ × ℕ} (a, b) (m, s)
 same_place a b m s Less second p q e = absurd (cc)
 same_place a b m s Greater second p q e = absurd (cc)
@@ -29,7 +29,7 @@ same_place a b m s Equal Equal p q e = λ i. (exact_unsigned a m p i, exact_unsi
 place_cmp-IsAntisymmetric : IsAntisymmetric place_cmp
 place_cmp-IsAntisymmetric x y e = same_place x.0 x.1 y.0 y.1 _ _ refl refl e
 
--- two places do not tie where their masters or their segments are apart
+-- two places do not tie if their masters or their segments differ
 apart_by : (a b m s : ℕ) (first second : Ordering) → nat_cmp a m ≡ first → nat_cmp b s ≡ second → (a ≢ m) ⊎ (b ≢ s) → is_eq (ordering_then first second) ≡ false
 apart_by a b m s Less second p q apart = refl
 apart_by a b m s Greater second p q apart = refl

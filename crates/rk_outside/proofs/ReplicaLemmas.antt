@@ -15,7 +15,7 @@ pub with_kept-none : (written : SegmentMap) (master segment : ℕ) (front bytes 
 with_kept-none written master segment front [] is none = refl
 with_kept-none written master segment front (byte ∷ bytes) is none = let long = ap length is in absurd (omega (arith, long, none))
 
--- what is kept stands at the end of its segment alone
+-- what is kept goes to the end of its segment alone
 ChangesAt-with_kept : (written : SegmentMap) (master segment : ℕ) (bytes : List ℕ) → ChangesAt master segment (with_part (by_number written master segment) bytes) (by_number written) (by_number (with_kept written master segment bytes))
 ChangesAt-with_kept written master segment [] = record { here = refl; others = λ m s apart. refl }
 ChangesAt-with_kept written master segment (byte ∷ bytes) = ChangesAt-insert master segment _ written

@@ -4,7 +4,7 @@ use Rattle.rk_outside.specs.Segments.{Segments, bytes_of, lengths_of, with_bytes
 use Rattle.rk_outside.specs.declared.replica.Lost.{Lost}
 use Rattle.rk_outside.specs.declared.replica.Lost.TheVariants.{Failed, NoMemory}
 
--- where bytes are added to one segment, its length grows by theirs alone
+-- when bytes are added to one segment, its length grows by theirs alone
 pub lengths_of-with_bytes : (master segment : ℕ) (bytes : List ℕ) (old new : Segments) → ChangesAt master segment (with_bytes (old master segment) bytes) old new
     → ChangesAt master segment (lengths_of old master segment + length bytes) (lengths_of old) (lengths_of new)
 lengths_of-with_bytes master segment bytes old new change = record {
@@ -12,7 +12,7 @@ lengths_of-with_bytes master segment bytes old new change = record {
   others = λ m s apart. ap (λ stored. length (bytes_of stored)) (change.others m s apart);
 }
 
--- and so where a failed append left some first part of its bytes
+-- and so if a failed append left some first part of its bytes
 lengths_of-with_part : (master segment : ℕ) (bytes : List ℕ) (old new : Segments) → ChangesAt master segment (with_part (old master segment) bytes) old new
     → ChangesAt master segment (lengths_of old master segment + length bytes) (lengths_of old) (lengths_of new)
 lengths_of-with_part master segment [] old new change = record {
@@ -21,7 +21,7 @@ lengths_of-with_part master segment [] old new change = record {
 }
 lengths_of-with_part master segment (byte ∷ bytes) old new change = lengths_of-with_bytes master segment (byte ∷ bytes) old new change
 
--- where no segment changes, no length does
+-- if no segment changes, no length does
 pub lengths_of-same : (old new : Segments) → IsSame old new → IsSame (lengths_of old) (lengths_of new)
 lengths_of-same old new same m s = ap (λ stored. length (bytes_of stored)) (same m s)
 

@@ -18,7 +18,7 @@ use Rattle.rk_types.proofs.Places.{first, second, found_place, get_at, get_below
 module _ {X : Type 0} where
   -- ---- what is found
 
-  -- a search by number tells the number's place, or that nothing has it
+  -- a search by number gives the number's place, or says that nothing has it
   pub place_found : (number : ℕ) (entries : NumberMap X) (r : Result ℕ ℕ) → IsInOrder entries → IsSearchInRange r (length entries) → IsBinarySearchResult (λ e. nat_cmp e.0 number) entries r → IfSome (result_ok r) (IsAt number entries) × IfNone (result_ok r) (get entries number ≡ None)
   place_found number entries (Ok i) order in_range searched = ((found_place number entries (Ok i) order in_range searched).0, tt)
   place_found number entries (Err i) order in_range searched =
@@ -32,7 +32,7 @@ module _ {X : Type 0} where
 
   -- ---- what is left once an entry went
 
-  -- where nothing is under a number, nothing goes
+  -- if nothing is under a number, nothing goes
   pub remove_absent : (number : ℕ) (entries : NumberMap X) → get entries number ≡ None → remove entries number ≡ entries
   remove_absent number [] none = refl
   remove_absent number (e ∷ es) none =
@@ -90,7 +90,7 @@ module _ {X : Type 0} where
         | Greater ↦ λ is. each other x (rw is found)
       ] refl
 
-  -- an entry with a number above all stands behind them
+  -- an entry with a number above all comes behind them
   pub insert_behind : (number : ℕ) (new : X) (entries : NumberMap X) → AreBelow number entries → insert entries number new ≡ entries ++ (number, new) ∷ []
   insert_behind number new [] each = refl
   insert_behind number new (e ∷ es) each =

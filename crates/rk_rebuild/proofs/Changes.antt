@@ -20,7 +20,7 @@ use Rattle.rk_types.proofs.NumberMaps.{get_insert}
 
 -- ---- logs
 
--- the log of a master stands at this place, the first one that does
+-- the log of a master is at this place, the first such log
 pub record StandsAt (logs : List ReadLog) (place master : ℕ) (log : ReadLog) : Type 0 where
   pub place_is : place ≡ position_or_len (is_by master) logs
   pub within : place < length logs
@@ -31,7 +31,7 @@ pub log_master : (logs : List ReadLog) (place master : ℕ) (log : ReadLog) → 
 log_master logs place master log at =
     grind (arith, position_or_len, is_by, eqb-true, passes_at_first, at.place_is, at.within, at.log_is, log.master)
 
--- what is found by another test stays where neither the old nor the new one passes it
+-- what is found by another test stays if neither the old nor the new one passes it
 find_other : {X : Type 0} (p : X → Bool) (xs : List X) (i : ℕ) (new d : X) → p (get_or xs i d) ≡ false → p new ≡ false → find p (set xs i new) ≡ find p xs
 find_other p [] i new d old_fails new_fails = refl
 find_other p (x ∷ xs) zero new d old_fails new_fails = grind arith
@@ -77,7 +77,7 @@ members_read before logs place master old new segment bytes same at new_master r
       (members_read before logs place master old new segment bytes same at new_master reads readers),
     )
 
--- where nothing changed
+-- if nothing changed
 pub members_same : (before logs : List ReadLog) → ((member : Member) → gathered_at logs member ≡ gathered_at before member)
     → (readers : List Reader) → members_of logs readers ≡ members_of before readers
 members_same before logs same [] = refl
@@ -139,7 +139,7 @@ pass_reads old segment is member =
 
 -- ---- what readers know
 
--- what holds of each, where it follows
+-- what holds of each, if it follows
 all_weaker : {X : Type 0} (P Q : X → Type 0) → ((x : X) → P x → Q x) → (xs : List X) → AllByRecursion P xs → AllByRecursion Q xs
 all_weaker P Q gives [] all = tt
 all_weaker P Q gives (x ∷ xs) all = (gives x all.0, all_weaker P Q gives xs all.1)
@@ -286,7 +286,7 @@ find_before {X} p (z ∷ xs) x y found = go (p z) found (find_before p xs x y)
     go true here rest = here
     go false behind rest = rest behind
 
--- a log of which nothing was read tells nothing
+-- a log of which nothing was read adds nothing
 pub opened_same : (logs : List ReadLog) (new : ReadLog) → new.main ≡ [] → new.main_read ≡ false → new.sides ≡ [] → (member : Member)
     → gathered_at (logs ++ new ∷ []) member ≡ gathered_at logs member
 opened_same logs new no_main not_read no_sides member = grind (arith, log_of, gathered_of, find_pushed, is_by, find_before, member.master)
@@ -295,7 +295,7 @@ opened_same logs new no_main not_read no_sides member = grind (arith, log_of, ga
 pub short_main : (old new : ReadLog) (entries : List Entry) → new.main ≡ old.main ++ entries ∷ [] → length old.main + 1 < LAST_MAIN_SEGMENT → IsShort new
 short_main old new entries is short = omega (arith, ap length is, length-append old.main (entries ∷ []))
 
--- ---- where nothing changed
+-- ---- if nothing changed
 
 -- a log that is put back as it was
 pub put_back : (logs : List ReadLog) (place master : ℕ) (old new : ReadLog) → StandsAt logs place master old → new ≡ old → set logs place new ≡ logs

@@ -9,7 +9,7 @@ use Rattle.std.proofs.lemmas.List.Elements.{All-from_recursion}
 use Rattle.rk_world.specs.Gather.{unread, next_of, next_segment}
 use Rattle.rk_rebuild.specs.Logs.{IsShort}
 
--- what holds of each in a list holds of one that is found there
+-- what holds of each in a list holds of the element that is found there
 found_has : {X : Type 0} (P : X → Type 0) (test : X → Bool) (xs : List X) (x : X) → AllByRecursion P xs → find test xs ≡ Some x → P x
 found_has P test [] x all found = absurd (cc found)
 found_has {X} P test (y ∷ xs) x all found = go (test y) found (found_has P test xs x all.1)
@@ -18,7 +18,7 @@ found_has {X} P test (y ∷ xs) x all found = go (test y) found (found_has P tes
     go true here rest = let same : y ≡ x = cc here in subst P same all.0
     go false behind rest = rest behind
 
--- and of one that stands at a place
+-- and of the element at a place
 pub stands_has : {X : Type 0} (P : X → Type 0) (xs : List X) (i : ℕ) (x : X) → AllByRecursion P xs → i < length xs → x ≡ get_or xs i x → P x
 stands_has P xs i x all within is = subst P (sym is) (All-from_recursion P xs all i x within)
 
@@ -55,7 +55,7 @@ next_behind range logs readers i reader within is next = grind (arith, gathered_
 
 -- ---- nothing was read
 
--- where nothing was read of any master, nothing was of any member
+-- if nothing was read of any master, nothing was of any member
 pub members_unread : (readers : List Reader) → members_of [] readers ≡ map unread (map (λ reader. reader.member) readers)
 members_unread [] = refl
 members_unread (reader ∷ readers) = ap (λ rest. unread reader.member ∷ rest) (members_unread readers)
@@ -73,7 +73,7 @@ find_behind {X} p (x ∷ xs) (suc n) none = go (p x) none (find_behind p xs n)
     go true here rest = absurd (cc here)
     go false behind rest = rest behind
 
--- where none passes, none passes a test that is passed less
+-- if none passes, none passes a stricter test
 find_fewer : {X : Type 0} (p q : X → Bool) → ((x : X) → p x ≡ false → q x ≡ false) → (xs : List X) → find p xs ≡ None → find q xs ≡ None
 find_fewer p q fewer [] none = refl
 find_fewer {X} p q fewer (x ∷ xs) none = go (p x) refl none (find_fewer p q fewer xs)

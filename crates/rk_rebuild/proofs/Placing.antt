@@ -45,19 +45,19 @@ outrun_from : (last : Completions) (all : List Ended) (end : Ended)
 outrun_from last [] end = or_false (outruns (get last end.client) end.seq)
 outrun_from last (first ∷ all) end = grind (arith, outrun_noted, or_assoc, end.client, end.seq, (outrun_from (noted last first) all end))
 
--- a later call is among the ends where the last completion outruns it
+-- a later call is among the ends if the last completion outruns it
 pub outrun_told : (last : Completions) (all : List Ended) (end : Ended) → last ≡ completions_from [] all
     → outruns (get last end.client) end.seq ≡ list_any (is_outrun_by end) all
 outrun_told last all end is = ap (λ (c : Completions). outruns (get c end.client) end.seq) is ∙ outrun_from [] all end
 
 -- ---- the same call
 
--- an end without a place here was told, unless it is outrun
+-- an end without a place here was recorded, unless it is outrun
 told_before : (all later seen : List Ended) (first end : Ended) → list_any (is_outrun_by end) all ≡ false → is_placed all later seen first ≡ false
     → is_same_call end first ≡ true → list_any (is_same_call end) (later ++ seen) ≡ true
 told_before all later seen first end free out same = grind (arith, and_parts, eqb, eqb-true, ltb)
 
--- of a call that none outran, an end is told before, or has its place, where it is told
+-- of a call that none outran, an end was recorded before, or has its place, if it is recorded
 placed_told : (all later seen ends : List Ended) (end : Ended) → list_any (is_outrun_by end) all ≡ false
     → (list_any (is_same_call end) (later ++ seen) || list_any (is_same_call end) (placed_ends all later seen ends))
     ≡ list_any (is_same_call end) (later ++ (seen ++ ends))
@@ -73,7 +73,7 @@ placed_told all later seen (first ∷ ends) end free =
       (placed_told all later (seen ++ first ∷ []) ends end free),
     )
 
--- an end of a call that none outran has its place at some member where it is told
+-- an end of a call that none outran has its place at some member if it is recorded
 pub place_told : (all : List Ended) (members : List (List Ended)) (end : Ended) → list_any (is_outrun_by end) all ≡ false
     → list_any (is_same_call end) (ends_by_place all members) ≡ list_any (is_same_call end) (flat_map (λ ends. ends) members)
 place_told all [] end free = refl
@@ -96,7 +96,7 @@ place_told all (ends ∷ members) end free =
 pub outrun_unplaced : (all later seen : List Ended) (end : Ended) → list_any (is_outrun_by end) all ≡ true → false ≡ is_placed all later seen end
 outrun_unplaced all later seen end outrun = ap (λ (b : Bool). not b && not (list_any (is_same_call end) (later ++ seen))) (sym outrun)
 
--- another call has its place where it was not told before
+-- another call has its place if it was not recorded before
 pub placed_where : (all seen : List Ended) (members : List (List Ended)) (end : Ended) (there here : List Ended)
     → list_any (is_outrun_by end) all ≡ false → there ≡ ends_by_place all members
     → here ≡ placed_ends all (flat_map (λ ends. ends) members) [] seen

@@ -34,7 +34,7 @@ lent_taken f entries i entry within is =
 
 -- ---- versions
 
--- the version of an item; where its key stands tells nothing
+-- the version of an item; where its key is stored does not matter
 abbrev pub version_of : Held → Version
 version_of item = (item.table, record { ref_ptr = (0, 0); now = item.key }, item.version)
 

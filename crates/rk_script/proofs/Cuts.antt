@@ -56,7 +56,7 @@ fails : (b : Bool) → (b ≡ true → ⊥) → b ≡ false
 fails true never = absurd (never refl)
 fails false never = refl
 
--- the first byte that is a line feed stands at the place that `position` finds
+-- the first byte that is a line feed is at the place that `position` finds
 pub place_found : (xs : List ℕ) (r : Option ℕ) → IsFirstByte (is_byte LINE_FEED) xs r → r ≡ position is_feed xs
 place_found xs None none =
     let at : position_or_len is_feed xs ≡ length xs =

@@ -68,7 +68,7 @@ pub IfNone-from_err : {E : Type 0} (P : ℕ → Type 0) (Q : Type 0) (r : Result
 IfNone-from_err P Q (Ok number) told = tt
 IfNone-from_err P Q (Err e) told = told
 
--- where no error can be, there is a value
+-- if no error can be, there is a value
 pub IsOk-from_value : {E : Type 0} (P : ℕ → Type 0) (r : Result ℕ E) → MatchResult r P (λ e. ⊥) → IsOk r
 IsOk-from_value P (Ok number) told = refl
 IsOk-from_value P (Err e) told = absurd told

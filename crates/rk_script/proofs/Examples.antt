@@ -22,7 +22,7 @@ script_of-empty = refl
 pub script_of-ends : script_of (codes "masters 2\r\nbackups 4\nsettle") ≡ Ok (at 1 (command.Masters 2) ∷ at 2 (command.Backups 4) ∷ at 3 command.Settle ∷ [])
 script_of-ends = refl
 
--- a carriage return that stands before no line feed is a byte of its line
+-- a carriage return before no line feed is a byte of its line
 pub script_of-lone_return : script_of (codes "settle\r") ≡ Err (Refused 1 BadByte)
 script_of-lone_return = refl
 
@@ -46,7 +46,7 @@ script_of-moves = refl
 pub script_of-first : script_of (codes "settle\nmasters 1\nfrob\n") ≡ Err (Refused 2 BadNumber)
 script_of-first = refl
 
--- an unknown name is told before a wrong count of words, and that before a wrong number
+-- an unknown name is reported before a wrong count of words, and that before a wrong number
 pub script_of-unknown : script_of (codes "advance x far\n") ≡ Err (Refused 1 UnknownName)
 script_of-unknown = refl
 
@@ -56,7 +56,7 @@ script_of-count = refl
 pub script_of-number : script_of (codes "advance x granted\n") ≡ Err (Refused 1 BadNumber)
 script_of-number = refl
 
--- a byte that is no printed character is told before all of these
+-- a byte that is no printed character is reported before all of these
 pub script_of-byte : script_of (codes "frob " ++ 127 ∷ []) ≡ Err (Refused 1 BadByte)
 script_of-byte = refl
 

@@ -18,19 +18,19 @@ pub script_of-short : (reader : Reader) (fed : List ℕ) → WasFed reader fed �
 script_of-short reader fed was few =
     rw (le-ltb LONGEST_SCRIPT (length fed) (omega (arith, was.count, few))) (ap (λ (bytes : List ℕ). commands_from 1 (lines bytes)) (sym (append-nil fed)))
 
--- at the end, where the lines were read
+-- at the end, if the lines were read
 pub said-by_lines : (reader : Reader) (progress : Progress) (fed : List ℕ) → WasFed reader fed → reader.count ≤ LONGEST_SCRIPT → reader.read ≡ Ok progress → script_of fed ≡ answer_of progress []
 said-by_lines reader progress fed was few is =
     script_of-short reader fed was few
     ∙ subst (λ (read : Result Progress ParseError). Settles read [] (commands_from 1 (lines (fed ++ [])))) is (was.read (omega (arith, was.count, few)) [])
 
--- at the end, where a line was refused
+-- at the end, if a line was refused
 pub said-by_refusal : (reader : Reader) (e : ParseError) (fed : List ℕ) → WasFed reader fed → reader.count ≤ LONGEST_SCRIPT → reader.read ≡ Err e → e ≢ NoMemory → script_of fed ≡ Err e
 said-by_refusal reader e fed was few is other =
     script_of-short reader fed was few
     ∙ refusal-is e (commands_from 1 (lines (fed ++ [])))
     (subst (λ (read : Result Progress ParseError). Settles read [] (commands_from 1 (lines (fed ++ [])))) is (was.read (omega (arith, was.count, few)) [])) other
 
--- at the end, where the script is too long
+-- at the end, if the script is too long
 pub said-long : (reader : Reader) (fed : List ℕ) → WasFed reader fed → LONGEST_SCRIPT < reader.count → script_of fed ≡ Err (Refused 0 ScriptLength)
 said-long reader fed was long = rw (lt-ltb LONGEST_SCRIPT (length fed) (omega (arith, was.count, long))) refl

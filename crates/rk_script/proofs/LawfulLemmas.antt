@@ -119,7 +119,7 @@ plain_command-lawful Dump words = of_one IsTabletNumber command.Dump tablet_of (
 plain_command-lawful History [] = tt
 plain_command-lawful History (word ∷ words) = tt
 
--- so is one that `advance` says
+-- so is a command that `advance` says
 advance_of-lawful : (words : List (List ℕ)) → IfOk (advance_of words) IsLawfulCommand
 advance_of-lawful [] = tt
 advance_of-lawful (tablet ∷ []) = tt
@@ -127,14 +127,14 @@ advance_of-lawful (tablet ∷ reach ∷ more) = grind (arith, after-keeps, of_on
 
 -- ---- calls
 
--- bytes are read as a text where they have no fault
+-- bytes are read as a text if they have no fault
 text_of-keeps : (P : List ℕ → Type 0) (code : Code) (bytes : List ℕ) (fault : Option TextError) → (fault ≡ None → P bytes) → IfOk (text_of code bytes fault) P
 text_of-keeps P code bytes fault holds = grind arith
 
 op_of-lawful : (operation : Operation) (words : List (List ℕ)) → IfOk (op_of operation words) HasLawfulValue
 op_of-lawful operation words = grind (arith, made_of-keeps, made_of_both-keeps, free, text_of-keeps)
 
--- a call, where its client and its table are read
+-- a call, if its client and its table are read
 call-lawful : (operation : Operation) (c t : ℕ) (key : List ℕ) (words : List (List ℕ)) → 1 ≤ c → 1 ≤ t → IfOk (made_of_both (command.Call c t) (key_of key) (op_of operation words)) IsLawfulCommand
 call-lawful operation c t key words client table = grind (arith, made_of_both-keeps, op_of-lawful, text_of-keeps)
 
@@ -178,7 +178,7 @@ module _ (P : Command → Type 0) (calls : (words : List (List ℕ)) → IfOk (c
       (λ bad. tt)
       (λ good. made_of-keeps P (λ o. IfSome o P) Some (command_of name words) (λ command has. has) (command_keeps name words)))
 
-  -- a command at a line, where lines are counted from 1
+  -- a command at a line; lines are counted from 1
   abbrev HasAt : Numbered → Type 0
   HasAt numbered = (1 ≤ numbered.line) × P numbered.command
 

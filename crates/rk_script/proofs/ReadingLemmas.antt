@@ -20,7 +20,7 @@ pub lines_of_parts-step : (text : List ℕ) (parts : List (List ℕ)) → 0 < le
 lines_of_parts-step text [] some = absurd (omega arith)
 lines_of_parts-step text (part ∷ parts) some = refl
 
--- the lines, where the first is complete
+-- the lines, if the first is complete
 pub lines-cut : (text more : List ℕ) → IsWithinLine text → lines (text ++ LINE_FEED ∷ more) ≡ strip_carriage_return text ∷ lines more
 lines-cut text more opened = grind (arith, slice_split_at, is_feed, lines_of_parts-step, length-slice_split)
 

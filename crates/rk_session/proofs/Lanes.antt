@@ -17,21 +17,21 @@ none_cached = record { ranges = []; capacity = 0 }
 pub room_to_put : (call : Call) (located : Located) (cached : Cached) → has_call call located ≡ true → IsRoomy call cached → length (apart_from located cached.ranges) < cached.capacity
 room_to_put call located cached its roomy = grind (arith, filter_longer, nat_tests, located.range, cached.ranges)
 
--- the room stays where the ranges with the key are dropped
+-- the room stays when the ranges with the key are dropped
 pub room_forgotten : (call : Call) (old new : Cached) → new.ranges ≡ without_call call old.ranges → new.capacity ≡ old.capacity → IsRoomy call old → IsRoomy call new
 room_forgotten call old new ranges capacity roomy = grind (arith, filter_twice)
 
--- the room stays where a range with the key is put
+-- the room stays when a range with the key is put
 pub room_put : (call : Call) (located : Located) (old new : Cached) → has_call call located ≡ true
     → new.ranges ≡ apart_from located old.ranges ++ owned_range located located.owner → old.capacity ≤ new.capacity → IsRoomy call old → IsRoomy call new
 room_put call located old new its ranges capacity roomy = grind (arith, filter-append, append-nil, filter_twice)
 
--- what is read at the lane of a call is roomy, where that lane has room
+-- what is read at the lane of a call is roomy, if that lane has room
 pub read_room : (call : Call) (lanes : List Cached) (lane : ℕ) (d : Cached) → lane ≡ call_lane call → lane < length lanes → HasRoom call lanes → IsRoomy call (get_or lanes lane d)
 read_room call lanes lane d at within room =
     subst (IsRoomy call) (ap (λ i. get_or lanes i none_cached) (sym at) ∙ get_or_default lanes lane none_cached d within) room
 
--- the lane of a call has room once something roomy stands there
+-- the lane of a call has room once something roomy is put there
 pub set_room : (call : Call) (lanes : List Cached) (lane : ℕ) (new : Cached) → lane ≡ call_lane call → lane < length lanes → IsRoomy call new → HasRoom call (set lanes lane new)
 set_room call lanes lane new at within roomy = grind (arith, get_or-set_same)
 
@@ -43,7 +43,7 @@ read_ranges call lanes lane d at within = grind (arith, get_or-map)
 pub set_ranges : (call : Call) (lanes : List Cached) (lane : ℕ) (new : Cached) (ranges : List Located) → lane ≡ call_lane call → new.ranges ≡ ranges → ranges_of (set lanes lane new) ≡ set (ranges_of lanes) (call_lane call) ranges
 set_ranges call lanes lane new ranges at is = grind (arith, map-set)
 
--- what is cached stays where those ranges stay
+-- what is cached stays if those ranges stay
 pub same_ranges : (lanes : List Cached) (lane : ℕ) (d new : Cached) → lane < length lanes → new.ranges ≡ (get_or lanes lane d).ranges → ranges_of (set lanes lane new) ≡ ranges_of lanes
 same_ranges lanes lane d new within is =
     let there : new.ranges ≡ get_or (ranges_of lanes) lane [] = is ∙ sym (get_or-map (λ (cached : Cached). cached.ranges) lanes lane d [] within) in

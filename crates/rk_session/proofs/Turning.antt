@@ -20,12 +20,12 @@ turned : (before now : Session) (call : Call) (found : Option Located) → befor
     → session_turn now ≡ Some (turn_by before call found)
 turned before now call found same asked is = grind arith
 
--- the turn, where the key is looked up
+-- the turn, if the key is looked up
 pub turn_looks : (before now : Session) (call : Call) (found : Option Located) (address : Option (ℕ × ℕ)) → before ≡ now → before.outstanding ≡ Some call
     → found ≡ range_of before call → address ≡ address_of before.requests found → address ≡ None → session_turn now ≡ Some (looking_up before call)
 turn_looks before now call found address same asked is addressed none = grind (arith, turned, looks)
 
--- the turn, where a request is sent
+-- the turn, if a request is sent
 pub turn_requests : (before now : Session) (call : Call) (found : Option Located) (address : Option (ℕ × ℕ)) (tablet master : ℕ) → before ≡ now → before.outstanding ≡ Some call
     → found ≡ range_of before call → address ≡ address_of before.requests found → address ≡ Some (tablet, master) → session_turn now ≡ Some (requesting before call tablet master)
 turn_requests before now call found address tablet master same asked is addressed there = grind (arith, turned, requests)

@@ -61,7 +61,7 @@ all_moves : (course : Course) (fates : List Fate) → IsSettling course → IsSe
 all_moves course [] is = is
 all_moves course (fate ∷ fates) is = all_moves (moved course fate) fates (moves course fate is)
 
--- some task is left where the last one settles
+-- some task is left if the last one settles
 some_left : (left front : List Task) → left ≡ front ++ tasks.Settles ∷ [] → left ≡ [] → ⊥
 some_left left [] is none = let never : [] ≡ tasks.Settles ∷ [] = sym none ∙ is in cc never
 some_left left (task ∷ front) is none = let never : [] ≡ task ∷ front ++ tasks.Settles ∷ [] = sym none ∙ is in cc never

@@ -35,7 +35,7 @@ IsAlone [] = ⊤
 IsAlone (occurrence ∷ []) = ⊤
 IsAlone (occurrence ∷ other ∷ others) = ⊥
 
--- where one occurrence finds a lane worn the cluster is left as it was
+-- if one occurrence finds a lane worn the cluster is left as it was
 worn_by : (cluster : Cluster) (occurrence : Occurrence) (number : ℕ) (worn : Option ℕ) → (acted cluster occurrence).worn ≡ worn
     → (going_on (acted cluster occurrence) worn (λ next. all_acted next [])).worn ≡ Some number
     → (going_on (acted cluster occurrence) worn (λ next. all_acted next [])).cluster ≡ cluster

@@ -70,6 +70,6 @@ module _ {R : Type 0} (segments : R → Option Segments) (state : ClusterState R
   each_tells make more all left all_is left_is cluster stands eight =
       ap (λ (count : ℕ). map make (range_with_len 0 count) ++ more) eight ∙ ap (λ (list : List Task). list ++ more) (sym all_is) ∙ sym left_is
 
-  -- what is seen anyway is seen where a cluster has eight lanes
+  -- what is seen anyway is seen if a cluster has eight lanes
   pub tells_anyway : (command : Cluster → List Task) (left : List Task) → ClusterTells segments state command left → EightTell segments state command left
   tells_anyway command left tells cluster stands eight = tells cluster stands

@@ -17,7 +17,7 @@ use Rattle.rk_settle.specs.declared.task.Task.TheVariants.{Begins}
 use Rattle.rk_settle.specs.declared.error.SettleError.TheVariants.{Replica}
 use Rattle.rk_settle.proofs.Scene.{calling, course_after, migrating, shown_of}
 
--- what is seen of a course for calls: what is left of it, what clients say, how many occurrences it took, and whether its cluster is at rest
+-- what is seen of a course for calls: what is left of it, what clients say, how many occurrences it took, and if its cluster is at rest
 record Answered : Type 0 where
   left : List Task
   said : List Said
@@ -55,6 +55,6 @@ granted :
 unfolding hash_of spelled_of spelled_all spelled front_bytes body_length head_bytes held_bytes refused_bytes carried_bytes joined_bytes mark_of number_bytes key_bytes value_bytes range_bytes outcome_bytes end_bytes ends_bytes segments_bytes
 granted = refl
 
--- where replicas have failed in a hundred rounds, no further round begins
+-- if replicas have failed in a hundred rounds, no further round begins
 limit_stops : error_of (record (course_of calling (Begins ∷ [])) { faults = 100 }) ≡ Some (Replica 100)
 limit_stops = refl

@@ -50,12 +50,12 @@ module _ {R : Type 0} (faults : R → ℕ) where
 
   -- ---- moves
 
-  -- where no round more has failed
+  -- if no round more has failed
   pub keeps_up : (old new : ClusterState R) (was is : Progress) → failed_rounds is ≡ failed_rounds was → CountsGoOn faults [] old new → KeepsUp faults old new was is
   keeps_up old new was is same on start before =
       subst (λ (rounds : ℕ). FailsInRounds faults rounds start new) (sym same) (in_as_many (failed_rounds was) start old new before on)
 
-  -- where one has, in which none had
+  -- if one has, in which none had
   keeps_up_by : (failed failing : Bool) (old new start : ClusterState R) (count : ℕ) → CountsGoOn faults [] old new
       → (failed ≡ true → SomeLaneFailed faults old.lanes new.lanes) → FailsInRounds faults (count + (if failing then 1 else 0)) start old
       → FailsInRounds faults (count + (if (failing || failed) then 1 else 0)) start new

@@ -10,7 +10,7 @@ use Rattle.rk_settle.specs.declared.task.Task.TheVariants as made
 use Rattle.rk_settle.specs.declared.topic.Topic.{Topic}
 use Rattle.rk_settle.proofs.Moving.{more_moved, none_moved, one_moved, unfolds_moves}
 
--- where none is found that passes a test, none passes it
+-- if none is found that passes a test, none passes it
 none_passes : {X : Type 0} (test : X → Bool) (list : List X) → find test list ≡ None → filter test list ≡ []
 none_passes test [] none = refl
 none_passes test (item ∷ list) none = passes_none (test item) refl (none_passes test list)

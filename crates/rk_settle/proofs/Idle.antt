@@ -18,7 +18,7 @@ use Rattle.rk_settle.specs.declared.task.Task.TheVariants as made
 use Rattle.rk_settle.proofs.Courses.{happens_moves}
 use Rattle.rk_settle.proofs.Moving.{more_moved, none_moved, one_moved, unfolds_moves}
 
--- the masters that live in a lane in code, or in this world where there is no such lane
+-- the masters that live in a lane in code, or in this world if there is no such lane
 live_by : {R : Type 0} → LaneState R → Option Running → List ℕ
 live_by lane None = []
 live_by lane (Some running) = live_in lane running
@@ -27,7 +27,7 @@ live_at : {R : Type 0} → Option (LaneState R) → World → List ℕ
 live_at None d = numbers (live_masters d)
 live_at (Some lane) d = live_by lane lane.running
 
--- they live in each cluster that the one in code stands for
+-- they live in each cluster that the one in code represents
 live_are : {R : Type 0} (segments : R → Option Segments) (lanes : List (LaneState R)) (worlds : List World) (place : ℕ) (d : World) → AreWorlds segments lanes worlds
     → numbers (live_masters (slice_index_or worlds place d)) ≡ live_at (slice_get lanes place) d
 unfolding live_at live_by

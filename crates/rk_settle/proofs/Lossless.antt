@@ -21,7 +21,7 @@ use Rattle.rk_settle.specs.declared.task.Task.TheVariants as tasks
 
 -- ---- a command that stops
 
--- a course whose command stops stands still
+-- a course whose command stops stays as it is
 pub stands_still : (course : Course) (error : SettleError) → error_of course ≡ Some error → moved course Kept ≡ course
 stands_still course error is =
     grind (arith, all_acted, act_makes, deliver_in_makes, is_lost_at_backup, is_at_limit, none-some, course.tasks)

@@ -85,7 +85,7 @@ module _ {R : Type 0} (segments : R → Option Segments) (faults : R → ℕ) (s
       → ClusterTells segments state (λ cluster. unfolded cluster task ++ rest) after → Moves segments faults state state (task ∷ rest) after progress progress
   unfolds_moves task rest after progress unfolds tells = grind (arith, go_on_kept, counts_in, counts_same, keeps_same, moved_by)
 
-  -- a command stops where a round is to begin and replicas have failed too often
+  -- a command stops if a round is to begin and replicas have failed too often
   pub begins_stops : (task : Task) (rest : List Task) (progress : Progress) (e : SettleError) → task ≡ made.Begins → e ≡ errors.Replica progress.faults → MOST_FAULTS ≤ progress.faults
       → Stops segments state state (task ∷ rest) progress e
   begins_stops task rest progress e begins is above = grind (arith, error_by, nat_le, le-leb)

@@ -29,7 +29,7 @@ use Rattle.rk_settle.proofs.Unfolded.{NamesMasters, unfolded_are}
 pub acted_is : (cluster : Cluster) (occurrence : Occurrence) → (acted cluster occurrence).cluster ≡ cluster_after cluster occurrence
 acted_is cluster occurrence = grind arith
 
--- so is it after those that came: one that is refused changes nothing
+-- so is it after those that came: an occurrence that is refused changes nothing
 stepped_is : (cluster : Cluster) (lane : ℕ) (occurrence : Occurrence) (stepped : Result Stepped StepError) → cluster_after cluster occurrence ≡ cluster_stepped cluster lane stepped
     → cluster_stepped cluster lane stepped ≡ cluster_run cluster (came_in occurrence stepped)
 stepped_is cluster lane occurrence (Ok stepped) is = sym is
@@ -89,7 +89,7 @@ IsAllowed masters (Accepts lane number client) = lane < LANES
 
 -- ---- what replicas answer
 
--- where a replica is called, it answers what it stores, or fails
+-- if a replica is called, it answers what it stores, or fails
 abbrev pub IsToldAt : Cluster → Occurrence → Type 0
 IsToldAt cluster (Happens lane event called) = IsTold (lane_at cluster lane) event called
 IsToldAt cluster occurrence = Unit {0}
@@ -131,7 +131,7 @@ module _ (masters : ℕ) where
 
   -- ---- a move
 
-  -- a move goes on with a course: what occurs at it makes the cluster, and may occur where the tasks and the cluster name what is there;
+  -- a move goes on with a course: what occurs at it makes the cluster, and may occur if the tasks and the cluster name what is there;
   -- and so do then the tasks that are left
   pub record IsMove (course next : Course) : Type 0 where
     pub occurrences : List Occurrence

@@ -17,7 +17,7 @@ use Rattle.rk_world.specs.World.{World, live_masters}
 use Rattle.rk_cluster.specs.Quiet.{has_applied_all, has_owners, is_owned_live, is_quiet, is_quiet_lane}
 use Rattle.rk_settle.specs.Rest.{is_at_rest, is_silent}
 
--- what a test that all pass tells holds of all
+-- what a test shows holds of all, if all pass it
 all_by : {X : Type 0} (test : X → Bool) (Holds : X → Type 0) → ((x : X) → test x ≡ true → Holds x) → (xs : List X) → list_all test xs ≡ true → All Holds xs
 all_by test Holds tells [] is = All-nil Holds
 all_by test Holds tells (x ∷ xs) is =
@@ -57,6 +57,6 @@ quiet_cluster cluster is =
     all_by is_quiet_lane (λ w. IsQuiet w.coordinator.rows w.crashed (live_masters w) (map (λ (entry : ℕ × Session). entry.1) cluster.sessions))
     (λ w passes. quiet_lane cluster.sessions w both.1 passes) cluster.lanes both.0
 
--- so is one that is at rest
+-- so is a cluster that is at rest
 pub rests_quiet : (cluster : Cluster) → is_at_rest cluster ≡ true → IsQuietCluster cluster
 rests_quiet cluster is = quiet_cluster cluster (and_parts (is_quiet cluster) (list_all is_silent cluster.lanes) is).0

@@ -5,11 +5,11 @@ use Rattle.rk_types.specs.declared.reach.Reach.{Reach}
 use Rattle.rk_types.specs.declared.reach.Reach.TheVariants.{Begun, Frozen}
 
 module _ (w : World) (row : Row) (source target sfrom : ℕ) where
-  -- an opening one that is to do more than begin and freeze its source
+  -- an opening migration that is to do more than begin and freeze its source
   pub opening_moved : (dfrom : Option ℕ) (reach : Reach) → (reach ≡ Begun → ⊥) → (reach ≡ Frozen → ⊥)
       → is_at_reach w row (Opening source sfrom target dfrom) reach ≡ is_moved_to w row target reach
   opening_moved dfrom reach begins freezes = grind arith
 
-  -- one that moves, but for its source
+  -- a migration that moves, but for its source
   pub moving_moved : (dfrom : ℕ) (reach : Reach) → (reach ≡ Frozen → ⊥) → is_at_reach w row (Moving source sfrom target dfrom) reach ≡ is_moved_to w row target reach
   moving_moved dfrom reach freezes = grind arith

@@ -31,7 +31,7 @@ not_there number (first ∷ rest) above =
     let others = not_there number rest (All-tail (λ other. number < other) first rest above) in
     omega (arith, counted, none, others)
 
--- where a number is not among others that are not less, they are greater
+-- if a number is not among others that are not less, they are greater
 are_greater : (number : ℕ) (list : List ℕ) → occurrences list number ≡ 0 → All (λ other. number ≤ other) list → All (λ other. number + 1 ≤ other) list
 are_greater number [] none least = All-nil _
 are_greater number (first ∷ rest) none least =
@@ -43,7 +43,7 @@ are_greater number (first ∷ rest) none least =
     (λ (apart : first ≡ number → ⊥). omega (arith, less, apart)) (cases_eq first number) in
     All-cons (λ other. number + 1 ≤ other) first rest greater others
 
--- the first of them is the least, where that is there
+-- the first of them is the least, if that is there
 is_least : (least first : ℕ) (rest : List ℕ) → IsNonDecreasing (first ∷ rest) → least ≤ first → occurrences (first ∷ rest) least ≡ 1 → first ≡ least
 is_least least first rest rises not_less once =
     ⊎_elim (λ (is : first ≡ least). is)

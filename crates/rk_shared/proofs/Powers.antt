@@ -8,11 +8,11 @@ use Rattle.std.proofs.lemmas.List.Elements.{All-head, All-tail}
 use Rattle.std.proofs.lemmas.List.Sums.{sum_by-cons}
 use Rattle.rk_shared.specs.Powers.{ALL_NUMBERS}
 
--- 1 where two numbers are one
+-- 1 if two numbers are equal
 abbrev pub if_same : ℕ → ℕ → ℕ
 if_same number other = cond (other == number) 1 0
 
--- how often a number stands in a list
+-- how often a number occurs in a list
 abbrev pub occurrences : List ℕ → ℕ → ℕ
 occurrences list number = sum_by (if_same number) list
 
@@ -77,7 +77,7 @@ value_most digit (suc count) few =
     let rest = value_most (λ place. digit (suc place)) count (λ place. few (suc place)) in
     omega (arith, first, rest)
 
--- digits that come to those of ones are ones, where none exceeds eight
+-- digits that come to those of ones are ones, if none exceeds eight
 all_ones : (digit : ℕ → ℕ) (count : ℕ) → ((place : ℕ) → digit place ≤ 8) → value digit count ≡ value (λ place. 1) count
     → (place : ℕ) → place < count → digit place ≡ 1
 all_ones digit zero few is place inside = absurd (omega arith)
@@ -86,7 +86,7 @@ all_ones digit (suc count) few is (suc place) inside =
     let first = few 0 in
     all_ones (λ later. digit (suc later)) count (λ later. few (suc later)) (omega (arith, first, is)) place (omega arith)
 
--- the digits of numbers' powers tell how often each stands
+-- the digits of numbers' powers show how often each occurs
 value_all : (list : List ℕ) (count : ℕ) → All (λ number. number < count) list → value (occurrences list) count ≡ sum_by power list
 value_all [] count few = value_none (occurrences []) count (λ place. refl)
 value_all (first ∷ rest) count few =
@@ -110,7 +110,7 @@ at_most_all (first ∷ rest) number =
     let others = at_most_all rest number in
     omega (arith, all, one, others)
 
--- each number below eight stands there once
+-- each number below eight occurs once
 pub all_once : (list : List ℕ) → All (λ number. number < 8) list → length list ≡ 8 → sum_by power list ≡ ALL_NUMBERS
     → (number : ℕ) → number < 8 → occurrences list number ≡ 1
 all_once list few eight is =

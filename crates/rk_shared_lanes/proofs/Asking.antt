@@ -35,7 +35,7 @@ pub record IsTurnCounted (w : World) (session : Session) (visited : Visited) : T
 turn_counted : (w : World) (session : Session) (visited : Visited) → ask w session ≡ Ok visited → fits w session ≡ true → IsTurnCounted w session visited
 turn_counted w session visited is fit = grind (arith, and_parts, is_added, asked_once, asked_is)
 
--- what a turn leaves of a session, also where it was refused for want of memory
+-- what a turn leaves of a session, even if it was refused for want of memory
 pub record IsSameSession (session now : Session) : Type 0 where
   pub receipts : now.receipts ≡ session.receipts
   pub outstanding : now.outstanding ≡ session.outstanding
@@ -56,7 +56,7 @@ turned_or_not session now turned = grind (arith, turned_same, turned_last, turn_
 
 -- ---- the pass
 
--- the amount of a share to which one was added where a call was not counted before, and which counts it now
+-- the amount of a share to which one was added if a call was not counted before, and which counts it now
 one_for : (here counted : Bool) (before : ℕ) → here ≡ counted → cond here before (before + 1) ≡ before + one_if (not counted)
 one_for here counted before same = grind (arith, one_if)
 
@@ -72,11 +72,11 @@ module _ (tells : Type 0) (masters : ℕ) (makes : Call → Type 0) (pass : Pass
   last_same : pass.session.last ≡ length pass.session.receipts + waiting pass.session.outstanding → now.last ≡ length now.receipts + waiting now.outstanding
   last_same is = grind (arith, waiting)
 
-  -- it stays so where its call was not asked
+  -- it stays so if its call was not asked
   pub pass_kept : (got made : ℕ × ℕ) → IsPass tells masters makes pass got made → IsPass tells masters makes (record { session = now; counted = pass.counted }) got made
   pass_kept got made it = grind (arith, last_same, same_makes, one_if, now_orderly)
 
-  -- and where it was asked, and counted
+  -- and if it was asked, and counted
   pub pass_asked : (got made made_now : ℕ × ℕ) → IsPass tells masters makes pass got made → made_now.0 ≡ made.0 → made_now.1 ≡ made.1 + one_if (not pass.counted)
       → is_some pass.session.outstanding ≡ true → IsPass tells masters makes (record { session = now; counted = true }) got made_now
   pass_asked got made made_now it parts amount pending = grind (arith, last_same, same_makes, one_if, made_for, now_orderly)

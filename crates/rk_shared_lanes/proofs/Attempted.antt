@@ -35,7 +35,7 @@ unanswered : (taken : Option Taken) → heard taken ≡ None → not (is_answer 
 unanswered (Some takes.Done) none = absurd (cc none)
 unanswered _ none = refl
 
--- a call that was counted still is where the client heard nothing of it
+-- a call that was counted still is if the client heard nothing of it
 pub still_counted : (answer : Result Seen StepError) (old new : PassState) (taken : Option Taken) (attempt : Option Attempt) → old.counted ≡ true
     → IfOk answer (λ seen. new.counted ≡ not (is_answer seen.taken)) → OnErr answer (new ≡ old) → IfOk answer (λ seen. taken ≡ seen.taken)
     → attempt ≡ heard taken → attempt ≡ None → new.counted ≡ true
@@ -90,7 +90,7 @@ module _ {R : Type 0} (segments : R → Option Segments) where
 
   -- ---- attempts
 
-  -- one that could not ask
+  -- an attempt that could not ask
   pub attempt_unasked : (old new : LaneState R) (pass now : PassState) (error : StepError) (result : Result Attempt Short) → is_some old.running ≡ true
       → (error ≢ errors.NoMemory → IsRefusedFor (λ w. ask_refusal w pass.session) old error) → new ≡ old → (error ≢ errors.NoMemory → now ≡ pass)
       → (error ≢ errors.NoMemory → result ≡ refused_by error) → (error ≡ errors.NoMemory → result ≡ Err shorts.NoMemory)
@@ -99,13 +99,13 @@ module _ {R : Type 0} (segments : R → Option Segments) where
       grind (arith, running_there, attempt_refused, memory_or)
 
   module _ (old middle : LaneState R) (session asked : Session) (seen : Seen) (asks : IsVisitOf (λ w. ask w session) old middle asked seen) where
-    -- one that was stopped once the client had asked
+    -- an attempt that was stopped once the client had asked
     pub attempt_stopped : (new : LaneState R) (short : Short) → ((worn : Option ℕ) → StopsAt short worn → IsSending segments middle new seen worn)
         → (worn : Option ℕ) → StopsAt short worn → IsAttempt segments old new session asked (Err short)
     attempt_stopped new shorts.NoMemory came worn stops = absurd stops
     attempt_stopped new (shorts.Worn at) came worn stops = attempt_short segments old middle session asked seen asks new worn at stops (came worn stops)
 
-    -- one that was not
+    -- an attempt that was not
     pub attempt_said : (sent new : LaneState R) (now : Session) (numbers : List ℕ) (result : Result Attempt Short) → IsSending segments middle sent seen None
         → IfSome sent.running (λ running. numbers ≡ numbers_with (is_to_client asked.client) running.wire.messages)
         → IfOk result (IsTakenUpTo segments sent new asked now numbers) → IfErr result (λ e. e ≡ shorts.NoMemory)

@@ -8,7 +8,7 @@ use Rattle.rk_shared_lanes.proofs.Making.{next_makes}
 
 module _ (tells : Type 0) (masters : ℕ) (makes : Call → Type 0) (session : Session) (counted : Bool) (got made : ℕ × ℕ)
     (it : IsPass tells masters makes (record { session = session; counted = counted }) got made) where
-  -- where no call is outstanding, none is counted
+  -- if no call is outstanding, none is counted
   none_counted : session.outstanding ≡ None → counted ≡ false
   none_counted free = grind (arith, false≢true)
 

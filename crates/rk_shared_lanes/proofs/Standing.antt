@@ -6,11 +6,11 @@ use Rattle.rk_shared_lanes.proofs.Words.{IsPart, IsSoundOrSpent, StandsFor}
 use Rattle.rk_cluster.proofs.Faults.{rose_then}
 use Rattle.rk_shared_lanes.specs.Kept.{HasClients}
 
--- the clients of a ledger are just these where another one has the same
+-- the clients of a ledger are just these if those of another ledger are, and it has the same
 clients_stay : (clients : List ℕ) (before after : Ledger) → HasSameClients before after → HasClients clients before → HasClients clients after
 clients_stay clients before after same has = λ client. same client ∙ has client
 
--- no count of faults of a lane is below these where none was, and none fell
+-- no count of faults of a lane is below these if none was, and none fell
 below_still : {R : Type 0} (faults : R → ℕ) (counts : Counts) (old new : LaneState R) → new.number ≡ old.number → LanesGoOn faults [] (old ∷ []) (new ∷ [])
     → IsNoneBelow faults counts old → IsNoneBelow faults counts new
 below_still faults counts old new same on above place =
@@ -18,12 +18,12 @@ below_still faults counts old new same on above place =
     (rose_then 0 0 (counts old.number place) (lane_counts faults (Some old) place) (lane_counts faults (Some new) place) (above place) (on 0 place))
 
 module _ {R : Type 0} (segments : R → Option Segments) (old new : LaneState R) (same : IsSameLane old new) where
-  -- the lane stands for a good world with what its backups stored before
+  -- the lane represents a good world with what its backups stored before
   pub stands_on : (before after : Running) → (stored : NumberMap Segments) → AreTold segments new.backups stored
       → IsGoodLane old.masters old.number (world_with new after stored) → StandsFor segments new after
   stands_on before after stored told good = grind (arith, world_with)
 
-  -- it stays sound or spent where each good world that it stood for leads to one
+  -- it stays sound or spent if each good world that it represented leads to one
   pub sound_on : (before after : Running) → old.running ≡ Some before → new.running ≡ Some after
       → (StandsFor segments old before → StandsFor segments new after) → IsSoundOrSpent segments old → IsSoundOrSpent segments new
   sound_on before after was is leads sound = grind arith

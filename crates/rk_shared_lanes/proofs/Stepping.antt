@@ -27,7 +27,7 @@ pub memory_or : (error : StepError) → (error ≡ errors.NoMemory) ⊎ (error �
 memory_or errors.NoMemory = inl refl
 memory_or _ = inr (λ e. cc e)
 
--- replicas that tell what they store answered by it
+-- replicas that report what they store answered by it
 told_so : (w : World) (event : Event) (called : Called) → IsAnswerOf (told_by_replica w event) called → IsTold w event called
 told_so w event called answers = grind (arith, by_failing)
 
@@ -43,7 +43,7 @@ pub record IsTaken (w : World) (event : Event) (called : Called) (after : World)
 taken : (w : World) (event : Event) (called : Called) (stepped : Stepped) → step w event called ≡ Ok stepped → IsTaken w event called stepped.world
 taken w event called stepped is = grind arith
 
--- a ledger has counted its calls where another one did that has its journal, its asked calls and its clients
+-- a ledger has counted its calls if another ledger did that has its journal, its asked calls and its clients
 counted_same : (before after : Ledger) → after.journal ≡ before.journal → after.asked ≡ before.asked → after.clients ≡ before.clients
     → HasCountedCalls before → HasCountedCalls after
 counted_same before after journal asked clients counted = grind arith

@@ -45,7 +45,7 @@ pub ends_well : {T : Type 0} (result : Result T Short) → IfErr result (λ e. e
 ends_well (Ok x) memory worn ends = ends
 ends_well (Err short) memory worn ends = absurd (never_stops short worn memory ends)
 
--- a lane to which something came where work went well is not spent
+-- a lane to which something came is not spent if the work went well
 pub runs_after : {R T : Type 0} (new : LaneState R) (result : Result T Short) (Came : Option ℕ → Type 0) → ((worn : Option ℕ) → Came worn → is_some new.running ≡ true)
     → ((worn : Option ℕ) → EndsAt result worn → Came worn) → OnOk result (is_some new.running ≡ true)
 runs_after new (Ok x) Came leads came = leads None (came None refl)
@@ -84,7 +84,7 @@ module _ {R : Type 0} (segments : R → Option Segments) where
   crashed_passes old lane master crashed some is tells yes_crashed worn ends =
       grind (arith, running_there, started, master_crashed, world_with)
 
-  -- one that lives does
+  -- a master that lives does
   pub living_turns : {T : Type 0} (old lane new : LaneState R) (master : ℕ) (crashed : Bool) (result : Result T Short) → lane ≡ old
       → IfSome lane.running (λ running. crashed ≡ has_crashed (world_with lane running []) master) → crashed ≡ false
       → ((worn : Option ℕ) → EndsAt result worn → IsEvent segments old new (events.Turn (nodes.Master master)) worn)

@@ -17,7 +17,7 @@ pub room_is : (segments : List (List ℕ)) → 0 < length segments → room_in s
 room_is [] some = absurd (omega arith)
 room_is (x ∷ more) some = refl
 
--- bytes, of which there are some, fit where there is that much room
+-- bytes, of which there are some, fit if there is that much room
 fits_by : (segments : List (List ℕ)) (bytes : List ℕ) → 0 < length bytes → has_room segments bytes ≡ leb (length bytes) (room_in segments)
 fits_by segments bytes some = grind (arith, lt-leb, leb, lt-ltb, nat_tests)
 

@@ -77,7 +77,7 @@ sealed_lawful (items ∷ sides) lawful =
 
 -- ---- two that follow one another
 
--- each is too long to stand in one segment with the next
+-- each is too long to share one segment with the next
 abbrev ArePacked : List (List Held) → Type 0
 ArePacked [] = Unit {0}
 ArePacked (items ∷ []) = Unit {0}

@@ -46,7 +46,7 @@ chosen : (s : List ℕ) (b c : Bool) (filled begun : List (List ℕ)) → b ≡ 
 chosen s true c filled begun same = ap (λ (x : Bool). s ∷ cond x filled begun) same
 chosen s false c filled begun same = ap (λ (x : Bool). s ∷ cond x filled begun) same
 
--- a first segment is left alone where there are others
+-- a first segment is left alone if there are others
 behind : (s : List ℕ) (t : List ℕ) (more : List (List ℕ)) (bytes : List ℕ) → with_bytes (s ∷ t ∷ more) bytes ≡ s ∷ with_bytes (t ∷ more) bytes
 behind s t more bytes = grind (arith, chosen, ltb, lt-ltb)
 

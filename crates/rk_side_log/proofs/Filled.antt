@@ -86,7 +86,7 @@ take-filled segments used items filled = ap (take used) filled.bytes_are ∙ tak
 
 -- ---- other segments
 
--- more empty ones may stand behind
+-- more empty segments may come behind
 pub filled_more : (segments : List (List ℕ)) (used more : ℕ) (items : List Held) → IsFilled segments used items → IsFilled (segments ++ replicate more []) used items
 filled_more segments used more items filled = grind (arith, append_assoc, replicate-append-replicate)
 
@@ -105,7 +105,7 @@ last_has_room : (segments : List (List ℕ)) (used : ℕ) (items : List Held) (b
     → has_room (cut (as_entries items)) bytes ≡ leb (length (get_or segments (used - 1) []) + length bytes) SEGMENT_BYTES
 last_has_room segments used items bytes filled some = grind (arith, leb, lt-ltb, last_used)
 
--- it goes into the last one where it fits
+-- it goes into the last one if it fits there
 pub filled_last : (segments : List (List ℕ)) (used : ℕ) (items : List Held) (item : Held) (bytes : List ℕ) → IsFilled segments used items → IsLawfulHeld item → bytes ≡ spelled (entries.Held item)
     → 0 < used → leb (length (get_or segments (used - 1) []) + length bytes) SEGMENT_BYTES ≡ true
     → IsFilled (set segments (used - 1) (get_or segments (used - 1) [] ++ bytes)) used (items ++ item ∷ [])
@@ -124,7 +124,7 @@ filled_last segments used items item bytes filled lawful is some fits =
       used_is = filled.used_is ∙ sym (length-set (cut (as_entries items)) (length (cut (as_entries items)) - 1) (last_of (cut (as_entries items)) ++ bytes)) ∙ ap length (sym now);
     }
 
--- whether there is room where there is none in the last of the used segments, or none is used
+-- there is no room if there is none in the last of the used segments, or none is used
 no_room : (segments : List (List ℕ)) (used : ℕ) (items : List Held) (bytes : List ℕ) → IsFilled segments used items
     → (0 < used → leb (length (get_or segments (used - 1) []) + length bytes) SEGMENT_BYTES ≡ false) → has_room (cut (as_entries items)) bytes ≡ false
 no_room segments used items bytes filled full = grind (arith, last_has_room, and_left, ltb, leb, le-ltb, cases_lt)
@@ -134,7 +134,7 @@ taken : (front : List (List ℕ)) (used empty : ℕ) (bytes : List ℕ) → leng
     → set (front ++ replicate empty []) used (get_or (front ++ replicate empty []) used [] ++ bytes) ≡ (front ++ bytes ∷ []) ++ replicate (empty - 1) []
 taken front used empty bytes at some = grind (arith, get_or_at, set_at, append_assoc)
 
--- it goes into the first of the empty ones where it does not fit into the last of the used ones
+-- it goes into the first of the empty ones if it does not fit into the last of the used ones
 pub filled_next : (segments : List (List ℕ)) (used : ℕ) (items : List Held) (item : Held) (bytes : List ℕ) → IsFilled segments used items → IsLawfulHeld item → bytes ≡ spelled (entries.Held item)
     → (0 < used → leb (length (get_or segments (used - 1) []) + length bytes) SEGMENT_BYTES ≡ false) → used < length segments
     → IsFilled (set segments used (get_or segments used [] ++ bytes)) (used + 1) (items ++ item ∷ [])
@@ -152,7 +152,7 @@ filled_next segments used items item bytes filled lawful is full within =
       used_is = omega (arith, filled.used_is, ap length now, length-append (cut (as_entries items)) (bytes ∷ []));
     }
 
--- there is an empty one where enough are made
+-- there is an empty one if enough are made
 pub next_there : (segments : List (List ℕ)) (used : ℕ) (items : List Held) (item : Held) (bytes : List ℕ) → IsFilled segments used items → bytes ≡ spelled (entries.Held item)
     → (0 < used → leb (length (get_or segments (used - 1) []) + length bytes) SEGMENT_BYTES ≡ false) → segments_of (items ++ item ∷ []) ≤ length segments → used < length segments
 next_there segments used items item bytes filled is full made =
@@ -182,7 +182,7 @@ next_empty segments used items filled within = grind (arith, get_or-append_right
 
 -- ---- where an entry goes
 
--- an entry that does not fit into the last one, where there is one
+-- an entry that does not fit into the last one, if there is one
 full_last : (used : ℕ) (fits : Bool) → (ltb 0 used && fits) ≡ false → 0 < used → fits ≡ false
 full_last used fits is some = grind (arith, ltb, both_ways, lt-ltb, and_cases)
 

@@ -8,7 +8,7 @@ use Rattle.std.proofs.lemmas.List.Folds.{sum_by-replicate}
 use Rattle.std.proofs.lemmas.List.Sums.{sum_by-drop_more}
 use Rattle.rk_side_log.proofs.Cutting.{spelled_none, sum_first}
 
--- the worker at a place is the one that stood there
+-- the worker at a place is the worker that was there
 pub same_there : (before now : List Side) (i : ℕ) (d : Side) → drop i now ≡ drop i before → get_or now i d ≡ get_or before i d
 same_there before now i d same =
     ap (λ (n : ℕ). get_or now n d) (omega arith) ∙ sym (get_or-drop i now 0 d) ∙ ap (λ (l : List Side). get_or l 0 d) same ∙ get_or-drop i before 0 d

@@ -28,7 +28,7 @@ pub taken_at : {T : Type 0} (segments : List NumberedBytes) (place : ℕ) (old :
     → MatchResult r (λ _. overflow old bytes ≡ None) (λ full. overflow old bytes ≡ Some full) → is_ok r ≡ true
 taken_at segments place old bytes r within there fits told = grind (arith, cond-false, ltb, le-ltb, bytes_at)
 
--- then they stand at the end of the segment
+-- then they are at the end of the segment
 pub put_seen : {T E : Type 0} (segments : List NumberedBytes) (place : ℕ) (old now : NumberedBytes) (bytes : List ℕ) (r : Result T E) → place < length segments → old ≡ get_or segments place old
     → is_ok r ≡ true → OnOk r (now ≡ appended old bytes) → bytes_in (set segments place now) ≡ set (bytes_in segments) place (get_or (bytes_in segments) place [] ++ bytes)
 put_seen segments place old now bytes r within there is on_ok = grind (arith, false≢true, map-set, bytes_in, bytes_at)

@@ -15,7 +15,7 @@ use Rattle.rk_staged.specs.Counts.{name_cmp, one_at, weight, name_of, counted_in
 
 -- ---- the counts that are kept
 
--- two names are one where their clients are, and their seqs
+-- two names are equal if their clients are, and their seqs
 same_name : (a b : ℕ × ℕ) → is_eq (name_cmp a b) ≡ (eqb a.0 b.0 && eqb a.1 b.1)
 same_name a b = grind (arith, eqb)
 
@@ -36,7 +36,7 @@ one_less old new client seq count updates less other asked = grind (arith, count
 
 -- ---- the calls
 
--- a call is among them where there are more than none
+-- a call is among them if there are more than none
 pub some_counted : (calls : NumberMap Call) (client seq : ℕ) → ltb 0 (many calls client seq) ≡ has_call calls client seq
 some_counted [] client seq = refl
 some_counted (entry ∷ calls) client seq = grind (arith, eqb, ltb, entry.1.client, entry.1.seq, (some_counted calls client seq))

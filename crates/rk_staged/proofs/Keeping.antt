@@ -16,7 +16,7 @@ use Rattle.rk_overlay.proofs.Names.{is_of_parts, is_of_from}
 use Rattle.rk_staged.specs.declared.staged_entries.Kept.{Kept}
 use Rattle.rk_staged.specs.Kept.{Name, name_cmp, many_of, kept_of, kept, kept_with, IsKept, newer_in}
 
--- two names are one where their tables are, and their keys
+-- two names are equal if their tables are, and their keys
 pub same_name : (a b : Name) → is_eq (name_cmp a b) ≡ (eqb a.0 b.0 && bytes_eq a.1 b.1)
 same_name a b = grind (arith, nat_cmp, is_eq, unsigned_tied, eqb, is_eq-slice_cmp)
 
@@ -29,7 +29,7 @@ many_more : (items : List Held) (item : Held) (table : ℕ) (key : List ℕ) →
 many_more [] item table key = omega arith
 many_more (first ∷ items) item table key = omega (arith, many_more items item table key)
 
--- there are none where none is found
+-- there are none if none is found
 many_none : (items : List Held) (table : ℕ) (key : List ℕ) → HasNone items table key → many_of items table key ≡ 0
 many_none [] table key none = refl
 many_none (first ∷ items) table key none =
@@ -101,7 +101,7 @@ ahead f g (first ∷ items) table key old item was below is newer =
 kept_apart : (item : Held) (items : List Held) (table : ℕ) (key : List ℕ) → is_of table key item ≡ false → kept (item ∷ items) table key ≡ kept items table key
 kept_apart item items table key apart = grind (arith, newest, newest_from-same, with_newer_other, cond-false)
 
--- none is found where there are none
+-- none is found if there are none
 none_many : (found : Found) (items : List Held) (table : ℕ) (key : List ℕ) → many_of items table key ≡ 0 → newest_from found items table key ≡ found table key
 none_many found [] table key none = refl
 none_many found (first ∷ items) table key none =
@@ -118,7 +118,7 @@ pub kept_none : (item : Held) (items : List Held) (table : ℕ) (key : List ℕ)
     → old.count ≤ 1 → None ≡ kept items table key
 kept_none item items table key old here is few = grind (arith, none_many, newest, cond-true)
 
--- a newest one that is newer than the first is left
+-- a newest item that is newer than the first is left
 pub kept_newer : (item : Held) (items : List Held) (table : ℕ) (key : List ℕ) (old : Kept) → is_of table key item ≡ true → Some old ≡ kept (item ∷ items) table key
     → item.version < old.version → Some (record { version = old.version; is_live = old.is_live; count = old.count - 1 }) ≡ kept items table key
 kept_newer item items table key old here is newer = grind (arith, newest, with_newer_here, ahead, cond-true)

@@ -18,7 +18,7 @@ module _ (old new : StagedEntries) (first : Option Entry) (place : ℕ) (all : L
   others_are : (entry : Entry) → slice_get all place ≡ Some entry → AreStagedFrom (place + 1) new all
   others_are entry at = are_others entry (drop (place + 1) all) (subst (AreStaged old) (from_place all place entry at) from)
 
-  -- there is one, where not all are applied
+  -- there is one, if not all are applied
   pub there_is : place < length all → IsSome first
   there_is left =
       ⊎_elim (λ found. ap is_some (first_is found.0 found.2)) (λ past. absurd (omega (arith, past.0, left))) (slice_get_cases all place).1

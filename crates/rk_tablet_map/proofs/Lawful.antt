@@ -71,7 +71,7 @@ pub record TakesPlace (row old : Row) : Type 0 where
 found_cases : (P : Type 0) (x old : Row) (xs : List Row) (tablet : ℕ) → row_of (x ∷ xs) tablet ≡ Some old → ((x.tablet == tablet) ≡ true → x ≡ old → P) → ((x.tablet == tablet) ≡ false → row_of xs tablet ≡ Some old → P) → P
 found_cases P x old xs tablet h first later = grind arith
 
--- what holds of each row, and of the new one where it holds of the old one, holds of each row with that one replaced
+-- what holds of each row, and of the new one if it holds of the old one, holds of each row with that one replaced
 all_replaced : (P : Row → Type 0) (row old : Row) (tablet : ℕ) (rows : List Row) → row_of rows tablet ≡ Some old → (P old → P row) → AllByRecursion P rows → AllByRecursion P (replaced tablet row rows)
 all_replaced P row old tablet [] h f a = tt
 all_replaced P row old tablet (x ∷ xs) h f a =
@@ -95,12 +95,12 @@ lawful_replaced row old tablet (x ∷ xs) h t m =
     (λ e s. rw e (all_weaker (Precedes old) (Precedes row) (λ y p. stands_for row old y t p) xs (subst (λ (r : Row). AllByRecursion (Precedes r) xs) s m.0), m.1))
     (λ e s. rw e (all_replaced (Precedes x) row old tablet xs s (λ p. comes_after row old x t p) m.0, lawful_replaced row old tablet xs s t m.1))
 
--- the number of a row that is found is the one that was asked for
+-- the number of a row that is found is the number that was asked for
 pub number_of : (rows : List Row) (tablet : ℕ) (row : Row) → row_of rows tablet ≡ Some row → row.tablet ≡ tablet
 number_of [] tablet row h = absurd (cc)
 number_of (x ∷ xs) tablet row h = found_cases _ x row xs tablet h (λ e s. rw (← s) (eqb-true _ _ e)) (λ e s. number_of xs tablet row s)
 
--- which of two rows with one number stands first tells nothing of the numbers that are known
+-- which of two rows with one number comes first does not change which numbers are known
 some_alike : (row x : Row) (xs : List Row) (new : ℕ) → row.tablet ≡ x.tablet → is_some (row_of (row ∷ xs) new) ≡ is_some (row_of (x ∷ xs) new)
 some_alike row x xs new same = grind arith
 

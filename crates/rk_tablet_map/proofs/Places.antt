@@ -7,7 +7,7 @@ use Rattle.rk_tablet_map.specs.declared.row.Row.{Row}
 use Rattle.rk_tablet_map.specs.Rows.{row_of, placed, replaced}
 
 module _ {X : Type 0} (p : X → Bool) where
-  -- the place of the first element that passes, or the length where none does
+  -- the place of the first element that passes, or the length if none does
   abbrev pub first_place : List X → ℕ
   first_place [] = 0
   first_place (x ∷ xs) = cond (p x) 0 (suc (first_place xs))
@@ -22,7 +22,7 @@ module _ {X : Type 0} (p : X → Bool) where
   within [] = omega arith
   within (x ∷ xs) = elim (p x) as (λ b. cond b 0 (suc (first_place xs)) ≤ suc (length xs)) [ true ↦ omega arith | false ↦ omega (arith, within xs) ]
 
-  -- what is found stands at the first place
+  -- what is found is at the first place
   pub find_first : (xs : List X) (d : X) → first_place xs < length xs → find p xs ≡ Some (get_or xs (first_place xs) d)
   find_first [] d h = absurd (omega arith)
   find_first (x ∷ xs) d h =
@@ -31,7 +31,7 @@ module _ {X : Type 0} (p : X → Bool) where
         | false ↦ λ w. find_first xs d (omega arith)
       ] h
 
-  -- nothing is found where there is no such place
+  -- nothing is found if there is no such place
   pub find_none : (xs : List X) → length xs ≤ first_place xs → find p xs ≡ None
   find_none [] h = refl
   find_none (x ∷ xs) h =
@@ -44,12 +44,12 @@ module _ {X : Type 0} (p : X → Bool) where
   pub indexed : (xs : List X) (i : ℕ) → Some i ≡ position p xs → (i ≡ first_place xs) × (i < length xs)
   indexed xs i e = grind (arith, ltb, first_place_is, ltb-true)
 
-  -- something is found where there is such a place
+  -- something is found if there is such a place
   found_there : (xs : List X) → first_place xs < length xs → true ≡ is_some (find p xs)
   found_there [] h = absurd (omega arith)
   found_there (x ∷ xs) h = sym (ap is_some (find_first (x ∷ xs) x h))
 
-  -- an index is found where something is
+  -- an index is found if something is
   pub index_is_some : (xs : List X) → is_some (position p xs) ≡ is_some (find p xs)
   index_is_some xs = grind (arith, ltb, found_there, ltb-true, first_place_is, find_none, ltb-false)
 
@@ -84,7 +84,7 @@ placed_first : (row : Row) (rows : List Row) → placed row rows ≡ insert rows
 placed_first row [] = refl
 placed_first row (x ∷ xs) = grind (arith, nat_le, row.tablet, x.tablet, (placed_first row xs))
 
--- the place of the first element, or the length where none passes
+-- the place of the first element, or the length if none passes
 pub place_found : {X : Type 0} (p : X → Bool) (xs : List X) → unwrap_or (position p xs) (length xs) ≡ position_or_len p xs
 place_found p xs = grind (arith, ltb, ltb-false, first_place_is, within)
 

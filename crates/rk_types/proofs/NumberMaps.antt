@@ -52,7 +52,7 @@ module _ {X : Type 0} where
       stays : (q ≡ number → ⊥) → stands q ≡ true
       stays apart = ap not (unsigned_tied number q ∙ ne_eqb number q (λ is. apart (sym is)))
 
-  -- nothing is found where nothing is left
+  -- nothing is found under a number that was removed
   pub get_removed : (things : NumberMap X) (number : ℕ) → get (remove things number) number ≡ None
   get_removed things number =
       get_remove things number number ∙ cond-true (eqb number number) None (get things number) (eq-eqb number number refl)
@@ -74,7 +74,7 @@ module _ {X : Type 0} where
   abbrev pub HasNoMore : NumberMap X → NumberMap X → Type 0
   HasNoMore less things = (number : ℕ) (thing : X) → get less number ≡ Some thing → get things number ≡ Some thing
 
-  -- so it is with one that has nothing under a number
+  -- so it is with a map from which a number was removed
   pub remove_less : (things : NumberMap X) (number : ℕ) → HasNoMore (remove things number) things
   remove_less things number q x found =
       ⊎_elim

@@ -80,7 +80,7 @@ module _ {X : Type 0} where
         | inr more ↦ let same : i ≡ j = omega arith in subst (λ (k : ℕ). ordering_index (nat_cmp (get_or entries i d).0 number) ≤ ordering_index (nat_cmp (get_or entries k d).0 number)) same (omega arith)
       ]
 
-  -- what a search by number answers where the numbers rise
+  -- what a search by number returns if the numbers rise
   pub found_place : (number : ℕ) (entries : NumberMap X) (r : Result ℕ ℕ) → IsInOrder entries → IsSearchInRange r (length entries) → IsBinarySearchResult (λ e. nat_cmp e.0 number) entries r → IfOk r (IsAt number entries) × IfErr r (IsBetween number entries)
   found_place number entries (Ok i) h w s = (record { within = w; same = λ d. ranked _ number Equal (sym (s d)) }, tt)
   found_place number entries (Err i) h w s =
@@ -91,18 +91,18 @@ module _ {X : Type 0} where
   at_tail : (number : ℕ) (e : ℕ × X) (es : NumberMap X) (i : ℕ) → IsAt number (e ∷ es) (suc i) → IsAt number es i
   at_tail number e es i at = record { within = omega (arith, at.within); same = at.same }
 
-  -- the first entry is below it, where the numbers rise
+  -- the first entry is below it, if the numbers rise
   first_below : (number : ℕ) (e : ℕ × X) (es : NumberMap X) (i : ℕ) → IsInOrder (e ∷ es) → IsAt number (e ∷ es) (suc i) → e.0 < number
   first_below number e es i order at = subst (λ (k : ℕ). e.0 < k) (at.same e) (below e.0 es i e (first _ _ order) (omega (arith, at.within)))
 
-  -- a number that stands at a place is found there
+  -- a number that is at a place is found there
   pub get_at : (number : ℕ) (entries : NumberMap X) (i : ℕ) (d : ℕ × X) → IsInOrder entries → IsAt number entries i → get entries number ≡ Some (get_or entries i d).1
   get_at number [] i d order at = absurd (omega (arith, at.within))
   get_at number (e ∷ es) zero d order at = rw (cmp_same number e.0 (sym (at.same d))) refl
   get_at number (e ∷ es) (suc i) d order at =
       rw (cmp_above number e.0 (first_below number e es i order at)) (get_at number es i d (second _ _ order) (at_tail number e es i at))
 
-  -- to insert such a number is to change what stands at its place
+  -- to insert such a number is to change what is at its place
   pub insert_at_place : (number : ℕ) (new : X) (entries : NumberMap X) (i : ℕ) (d : ℕ × X) → IsInOrder entries → IsAt number entries i → insert entries number new ≡ set entries i ((get_or entries i d).0, new)
   insert_at_place number new [] i d order at = absurd (omega (arith, at.within))
   insert_at_place number new (e ∷ es) zero d order at = rw (cmp_same number e.0 (sym (at.same d))) refl
@@ -139,7 +139,7 @@ module _ {X : Type 0} where
   pub order_between : (number : ℕ) (new : X) (entries : NumberMap X) (i : ℕ) → IsInOrder entries → IsBetween number entries i → IsInOrder (insert_at entries i (number, new))
   order_between number new entries i order between = subst IsInOrder (insert_between number new entries i between) (in_order_insert entries number new order)
 
-  -- and with what stands at its place changed
+  -- and with what is at its place changed
   pub order_at : (number : ℕ) (new : X) (entries : NumberMap X) (i : ℕ) (d : ℕ × X) → IsInOrder entries → IsAt number entries i → IsInOrder (set entries i ((get_or entries i d).0, new))
   order_at number new entries i d order at = subst IsInOrder (insert_at_place number new entries i d order at) (in_order_insert entries number new order)
 

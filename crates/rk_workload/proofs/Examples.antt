@@ -18,7 +18,7 @@ pub workload-turn : ops_of 1 8 1
 unfolding digits
 workload-turn = refl
 
--- the calls of the second client stand behind those of the first
+-- the calls of the second client come behind those of the first
 pub workload-keys : map (λ (call : Call). call.key) (workload 2 3 10)
     ≡ codes "k0" ∷ codes "k7" ∷ codes "k4" ∷ codes "k3" ∷ codes "k0" ∷ codes "k7" ∷ []
 unfolding digits

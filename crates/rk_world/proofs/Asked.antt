@@ -47,7 +47,7 @@ two_bytes at = record { segment = 1; at = at; bytes = 7 ∷ 8 ∷ [] }
 gap_calls_none : append_called no_segments 1 (two_bytes 5) (Some 0) ≡ Appended 0
 gap_calls_none = refl
 
--- bytes that begin at the end do, and where that fails a first part may be stored
+-- bytes that begin at the end do, and if that fails a first part may be stored
 end_may_fail : append_called no_segments 1 (two_bytes 0) (Some 1) ≡ Failed 1
 end_may_fail = refl
 
@@ -74,7 +74,7 @@ stored =
     Happens 4 (events.Deliver 3) (Gave None) ∷ Happens 4 (events.Turn (nodes.Master 1)) (Gave None)
     ∷ Happens 4 (events.Deliver 4) (Appended 40) ∷ Happens 4 (events.Deliver 5) (Appended 40) ∷ [])
 
--- the master is told, and then the client
+-- the answers reach the master, and then the client gets its own
 answered : Cluster
 answered =
     cluster_run stored (

@@ -20,7 +20,7 @@ use Rattle.rk_world.specs.declared.event.Event.TheVariants as events
 use Rattle.rk_world.proofs.Granted.{filled, granted, overwritten}
 use Rattle.rk_world.proofs.Scene.{Scene, Act, Does, Calls, Asks, Delivers, played, answers_of, phases_of, a, i, x, y}
 
--- client 2 reads both records, where its messages are numbered from `first` on
+-- client 2 reads both records; its messages are numbered from `first` on
 abbrev pub reading_both : ℕ → List Act
 reading_both first =
     Calls 2 a Get ∷ Asks 2 ∷ Delivers first ∷ Delivers (first + 1) ∷ Asks 2 ∷ Delivers (first + 2) ∷ Delivers (first + 3)
@@ -43,7 +43,7 @@ source_crashed_row : phases_of source_crashed ≡ Rebuilding (member 1 0 ∷ mem
 unfolding source_crashed overwritten granted filled hash_of spelled_of spelled_all spelled front_bytes body_length head_bytes held_bytes refused_bytes carried_bytes joined_bytes mark_of number_bytes key_bytes value_bytes range_bytes outcome_bytes end_bytes ends_bytes segments_bytes
 source_crashed_row = refl
 
--- it gathers what backup 1 has of the source, merges it, and tells that
+-- it gathers what backup 1 has of the source, merges it, and reports that
 source_rebuilt : Scene
 source_rebuilt =
     played source_crashed (
@@ -77,7 +77,7 @@ target_crashed_row : phases_of target_crashed ≡ Rebuilding (member 1 0 ∷ mem
 unfolding target_crashed overwritten granted filled hash_of spelled_of spelled_all spelled front_bytes body_length head_bytes held_bytes refused_bytes carried_bytes joined_bytes mark_of number_bytes key_bytes value_bytes range_bytes outcome_bytes end_bytes ends_bytes segments_bytes
 target_crashed_row = refl
 
--- it gathers what backup 1 has of the target, merges it, and tells that
+-- it gathers what backup 1 has of the target, merges it, and reports that
 target_rebuilt : Scene
 target_rebuilt =
     played target_crashed (

@@ -37,7 +37,7 @@ pub data Act : Type 0 where
 abbrev pub session_of : Scene → ℕ → Session
 session_of scene client = get_or (new_session client) scene.sessions client
 
--- the scene after an event; one that is refused changes nothing
+-- the scene after an event; an event that is refused changes nothing
 abbrev pub stepped_in : Scene → Result Stepped StepError → Scene
 stepped_in scene (Ok stepped) = record scene { world = stepped.world }
 stepped_in scene (Err error) = scene
@@ -48,7 +48,7 @@ visited_in scene client (Ok visited) =
     record { world = visited.world; sessions = insert scene.sessions client visited.session }
 visited_in scene client (Err error) = scene
 
--- an event happens, at replicas that tell their segments; `fault` tells whether the one that is called fails
+-- an event happens, at replicas that report their segments; `fault` says whether the replica that is called fails
 abbrev pub does : Scene → Event → Option ℕ → Scene
 does scene event fault = stepped_in scene (step scene.world event (told_by_replica scene.world event fault))
 

@@ -31,7 +31,7 @@ staged_unknown : recorded_in staged ≡ []
 unfolding staged hash_of spelled_of spelled_all spelled front_bytes body_length head_bytes held_bytes refused_bytes carried_bytes joined_bytes mark_of number_bytes key_bytes value_bytes range_bytes outcome_bytes end_bytes ends_bytes segments_bytes
 staged_unknown = refl
 
--- the master sends its bytes, and the first of two backups tells that it holds them
+-- the master sends its bytes, and the first of two backups reports that it holds them
 half : Scene
 half =
     played staged (
@@ -42,7 +42,7 @@ half_waits : applied_at half 1 ≡ 0
 unfolding half staged hash_of spelled_of spelled_all spelled front_bytes body_length head_bytes held_bytes refused_bytes carried_bytes joined_bytes mark_of number_bytes key_bytes value_bytes range_bytes outcome_bytes end_bytes ends_bytes segments_bytes
 half_waits = refl
 
--- the second one tells it too
+-- the second one reports it too
 written : Scene
 written =
     played half (

@@ -19,7 +19,7 @@ use Rattle.rk_drive.specs.Outcomes.{Drives, EndsDone}
 use Rattle.rk_drive.specs.declared.plan.Plan.{Plan}
 use Rattle.rocksteady.specs.Run.{DrivesOver, IsPlayed, PlaysOneMap}
 
--- where memory is wanting at once, nothing was written: none of the script's commands was played
+-- if memory is wanting at once, nothing was written: none of the script's commands was played
 pub halts_told : (told old : Option (List ℕ)) → IfSome told (λ script. IsPlayed script NoMemory old old)
 halts_told None old = tt
 halts_told (Some script) old = record {
@@ -31,14 +31,14 @@ halts_told (Some script) old = record {
   historical = scripts_historical script (Some 0) [];
 }
 
--- a run over replicas that told so is a run played
+-- a run over replicas that reported so is a run played
 pub played_told : {R : Type 0} (segments : R → Option Segments) (faults : R → ℕ) (told : Option (List ℕ)) (status : Status) (old new : Option (List ℕ)) (before after : List R)
     → IfSome told (λ script. PlaysOneMap segments faults script status old new before after) → IfSome told (λ script. IsPlayed script status old new)
 played_told segments faults None status old new before after it = tt
 played_told segments faults (Some script) status old new before after it =
     record { part = it.plays.part; may = it.plays.may; fates = it.plays.fates; runs = it.plays.runs; answers = it.answers; historical = it.historical }
 
--- a replica that is new tells that nothing was written
+-- a replica that is new reports that nothing was written
 new_tells : (replica : ReplicaState) → replica ≡ new_replica → segments_of replica ≡ no_segments
 new_tells replica is = ap segments_of is ∙ (λ i master segment. get-empty place_cmp (master, segment) i)
 
@@ -49,7 +49,7 @@ new_empty (replica ∷ replicas) new =
     (ap Some (new_tells replica (All-head (λ (it : ReplicaState). it ≡ new_replica) replica replicas new)))
     (new_empty replicas (All-tail (λ (it : ReplicaState). it ≡ new_replica) replica replicas new))
 
--- where memory is wanting at once, a plan was not driven, and nothing was written
+-- if memory is wanting at once, a plan was not driven, and nothing was written
 pub halts_driven : {R : Type 0} (segments : R → Option Segments) (named : Result Plan Code) (old : Option (List ℕ)) → IfOk named (λ plan. DrivesOver segments plan NoMemory old old)
 halts_driven {R} segments (Ok plan) old = record {
   before = [];

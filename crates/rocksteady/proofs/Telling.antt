@@ -31,7 +31,7 @@ worn_never script None fates most may ended faultless smooth =
     (smooth faultless.moves).1 (ap (λ (it : List (List Fate)). (played script it).status) (sym faultless.are) ∙ ended)
 worn_never script (Some count) fates most may ended faultless smooth = absurd may
 
--- ---- a drive where nothing failed
+-- ---- a drive in which nothing failed
 
 pub ends_unfailed : (status : Status) (before after : Counts) → MayEnd status → (status ≡ ReplicaFault → RoseInRounds 100 before after)
     → NoneRose before after → (status ≡ WriteFault → ⊥) → EndsUnfailed status
@@ -62,7 +62,7 @@ module _ {R : Type 0} (segments : R → Option Segments) (faults : R → ℕ) (o
     alone = λ memory none. none_failed script status plays memory none;
   }
 
-  -- where nothing failed, a smooth script is done, or memory was wanting
+  -- if nothing failed, a smooth script is done, or memory was wanting
   complete : (script : List ℕ) (status : Status) → Plays segments faults script status old new before after
       → (status ≡ ReplicaFault → RoseInRounds 100 (replica_counts faults before) (replica_counts faults after)) → IsSmooth script
       → NoneRose (replica_counts faults before) (replica_counts faults after) → (status ≡ ReadFault → ⊥) → (status ≡ WriteFault → ⊥) → (status ≡ Done) ⊎ (status ≡ NoMemory)
@@ -79,7 +79,7 @@ module _ {R : Type 0} (segments : R → Option Segments) (faults : R → ℕ) (o
   complete script Usage plays rounds smooth none read write = absurd plays.runs
   complete script Audit plays rounds smooth none read write = absurd plays.runs
 
-  -- so it is of the script that a source tells
+  -- so it is of the script that a source handed over
   pub one_map_told : (told : Option (List ℕ)) (status : Status) → IfSome told (λ script. Plays segments faults script status old new before after)
       → IfSome told (λ script. PlaysOneMap segments faults script status old new before after)
   one_map_told None status plays = tt

@@ -3,7 +3,7 @@ use Rattle.rk_model.specs.History.{IsLegal, empty_map, map_after}
 use Rattle.rk_model.specs.Standing.{StandsFor}
 use Rattle.rk_model.proofs.replay.replays.Given as goal
 
--- the records so far are legal, and what stands is the map after them
+-- the records so far are legal, and the standings represent the map after them
 abbrev pub invariant-loop-place : goal.invariant-loop-place
 invariant-loop-place l = record {
   legal : IsLegal empty_map (take l.place l.history);

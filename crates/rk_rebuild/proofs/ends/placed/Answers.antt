@@ -4,7 +4,7 @@ use Rattle.rk_rebuild.proofs.Placing.{placed_here, placed_elsewhere}
 use Rattle.rk_rebuild.proofs.ends.placed.Goals as goal
 use Rattle.rk_rebuild.proofs.ends.placed.Goals.{then-is_placed+in_ok-push, else-is_placed}
 
--- an end, where none is
+-- a default end
 abbrev other : Ended
 other = record { client = 0; seq = 0; end = Written 0 }
 

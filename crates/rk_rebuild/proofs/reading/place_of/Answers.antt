@@ -2,7 +2,7 @@ use Rattle.rk_rebuild.proofs.Words.{false, [], length, sym, ap, ◌∙◌, arith
 use Rattle.std.proofs.lemmas.List.Sums.{position_or_len_is}
 use Rattle.rk_rebuild.proofs.reading.place_of.Goals as goal
 
--- a log, where none is
+-- a default log
 abbrev other : ReadLog
 other = record { master = 0; main = []; main_read = false; sides = [] }
 

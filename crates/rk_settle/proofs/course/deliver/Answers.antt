@@ -3,7 +3,7 @@ use Rattle.rk_settle.proofs.Courses.{delivers_moves}
 use Rattle.rk_settle.proofs.Failing.{keeps_up_once}
 use Rattle.rk_settle.proofs.course.deliver.Goals as goal
 
--- what its receiver said is told, and whether the call of a replica failed
+-- what its receiver said is recorded, and whether the call of a replica failed
 pub returns-clause-ok : goal.returns-clause-ok
 returns-clause-ok g c =
     let is : Progress = record c.args.progress.now { said = c.tell.new.into; failing = c.args.progress.now.failing || c.in_ok-said.field-0.failed } in

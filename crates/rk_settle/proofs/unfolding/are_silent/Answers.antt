@@ -5,7 +5,7 @@ use Rattle.rk_cluster.proofs.Worlds.{there_read}
 use Rattle.rk_settle.specs.Rest.{is_silent}
 use Rattle.rk_settle.proofs.unfolding.are_silent.Goals as goal
 
--- nothing is there where something is not
+-- nothing is there if there is not something
 none_is : {X : Type 0} (found : Option X) → is_none found ≡ not (is_some found)
 none_is None = refl
 none_is (Some thing) = refl

@@ -3,7 +3,7 @@ use Rattle.std.specs.Option.{unwrap_or}
 use Rattle.rk_tablet_map.proofs.Places.{place_found, place_within}
 use Rattle.rk_tablet_map.proofs.tablet_map.place_of.Goals as goal
 
--- where no row has such a number, the place is the end
+-- if no row has such a number, the place is the end
 pub returns-clause-place : goal.returns-clause-place
 returns-clause-place c =
     c.unwrap_or.ensures ∙ ap (λ o. unwrap_or o (length c.args.rows.now)) c.first_from.ensures ∙ place_found (λ row. nat_le c.args.tablet row.tablet) c.args.rows.now

@@ -1,7 +1,7 @@
 use Rattle.rk_types.proofs.Places.{get_at, get_between}
 use Rattle.rk_done.proofs.completions.Completions.look.Goals as goal
 
--- the client's last completion stands at its place
+-- the client's last completion is at its place
 pub returns-in-Ok-clause-value : goal.returns-in-Ok-clause-value
 returns-in-Ok-clause-value c =
     let last = get_at c.args.client c.self.inside.completions.items c.in-Ok.at c.index.result.now c.self.invariant (rw c.as_slice.ensures.value at c.in-Ok.ensures.found) in

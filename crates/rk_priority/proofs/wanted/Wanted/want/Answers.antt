@@ -2,7 +2,7 @@ use Rattle.std.proofs.Common.{◌≢◌, ℕ, AllPairs, sym, subst, arith}
 use Rattle.rk_priority.proofs.Parts.{distinct_push, parts_apart}
 use Rattle.rk_priority.proofs.wanted.Wanted.want.Goals as goal
 
--- the new hash stands at the end, and differs from all others
+-- the new hash is at the end, and differs from all others
 distinct : (c : goal.In_ok-push) → AllPairs (λ a b. a ≢ b) c.push.new.self.items
 distinct c =
     subst (AllPairs (λ (a b : ℕ). a ≢ b)) (sym c.in_ok-push.ensures.items)

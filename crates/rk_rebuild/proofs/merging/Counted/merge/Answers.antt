@@ -10,7 +10,7 @@ told_joined : (members : List (List Entry)) → flat_map (λ ends. ends) (map to
 told_joined [] = refl
 told_joined (entries ∷ members) = ap (λ ends. told entries ++ ends) (told_joined members)
 
--- the ends that members tell, merged
+-- the ends that members record, merged
 ends_merged : (members : List (List Entry)) → ends_told (map told members) ≡ merged_ends members
 ends_merged members =
     ap (λ (all : List Ended). map (λ end. first_told end (get (completions_from [] all) end.client)) (ends_by_place all (map told members)))

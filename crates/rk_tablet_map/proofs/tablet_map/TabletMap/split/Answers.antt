@@ -23,7 +23,7 @@ same_row c =
     let written = row_at c.self.inside.rows.items c.args.tablet c.in-Some.place c.index_mut.result.now (rw c.as_slice.ensures.value at c.in-Some.ensures) ∙ ap Some (sym here) in
     cc (read, written)
 
--- the lower part stands in its place
+-- the lower part is put in its place
 lowered : (c : goal.After-put_in_place) → slice_set c.reserve_one.new.rows.items c.in-Some.place (lower_part c.index_mut.result.now c.args.at) ≡ replaced c.args.tablet (lower_part c.index-row.result.now c.args.at) c.self.inside.rows.items
 lowered c =
     rw (c.reserve_one.ensures.same, same_row c)
