@@ -13,13 +13,13 @@ use Rattle.rk_inv_events.proofs.Words.{by_found, segments_few, within_sum_of}
 use Rattle.rk_inv_events.proofs.Below.{Part}
 use Rattle.rk_inv_lanes.proofs.lanes.Masters.{each_kept}
 
--- A master is caught up where a backup told what it holds, and stays so at each other message, at its turn and where a tablet is split.
+-- A master is caught up once a backup reported what it holds, and stays so at each other message, at its turn and when a tablet is split.
 
--- what is applied stays so where a log grows
+-- what is applied stays so when a log grows
 caught_last : IsLasting (λ log applied calls sides records. AreApplied log applied) (λ item. ⊤)
 caught_last = search (applied_entry, applied_side, spelled_all, as_entries)
 
--- ---- what a backup told
+-- ---- what a backup reported
 
 told_caught : (master : Master) (backup : ℕ) (stored : Stored) → stored.length ≤ length (bytes_of master.log stored.segment) → IsCaughtUp master
     → IsCaughtUp (told_length master backup stored).master

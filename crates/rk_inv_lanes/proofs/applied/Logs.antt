@@ -21,14 +21,14 @@ use Rattle.rk_log.specs.Log.{missing, segments, with_side, with_told}
 use Rattle.rk_inv_base.proofs.logs.Segments.{bytes_main, bytes_zero, with_bytes_front}
 use Rattle.rk_inv_lanes.specs.applied.CaughtUp.{AreApplied, IsKnownThere}
 
--- ---- What is applied of a log stays all that is held where the log grows, and becomes so again when a backup tells what it holds.
+-- ---- What is applied of a log stays all that is held when the log grows, and becomes so again when a backup reports what it holds.
 
 -- ---- one more entry
 
 pub first_part_length : {front whole : List ℕ} → IsFirstPart front whole → length front ≤ length whole
 first_part_length {front} first = omega (arith, ap length first.parts, length-append front first.more)
 
--- the bytes of the last segment go past those that stood under its number
+-- the bytes of the last segment go past those that were under its number
 past_before : (segments : List (List ℕ)) (bytes : List ℕ) → 0 < length bytes
     → length (get_or segments (length (with_bytes segments bytes) - 1) []) < length (last_of (with_bytes segments bytes))
 past_before segments bytes some =
@@ -73,7 +73,7 @@ module _ (log : Log) (entry : Entry) where
     committed_same = ap (prefix_len (is_held log.known)) (ends_push [] log.entries entry)
         ∙ prefix_len_push_no (is_held log.known) (ends log.entries) (end_of more) not_held
 
-  -- nothing more is held where an entry is appended
+  -- nothing more is held when an entry is appended
   pub applied_entry : {count : ℕ} → AreApplied log count → AreApplied (with_entry log entry) count
   applied_entry before = record {
     known = λ backup segment main. omega (arith, before.known backup segment main, more_main segment main);
@@ -100,14 +100,14 @@ applied_side {log} bytes before = record {
   count_is = before.count_is;
 }
 
--- ---- what backups tell
+-- ---- what backups report
 
 module _ (log : Log) (teller segment size : ℕ) where
   told_there : size ≤ length (bytes_of log segment) → IsKnownThere log → (other : ℕ) → other < FIRST_SIDE_SEGMENT
       → known_length (told (known_of log teller) segment size) other ≤ length (bytes_of log other)
   told_there fits known other main = grind (arith, told_length, known_of, bytes_of, told_other, cases_eq)
 
-  -- a backup tells no more than is there
+  -- a backup reports no more than is there
   pub known_told : size ≤ length (bytes_of log segment) → IsKnownThere log → IsKnownThere (with_told log teller segment size)
   known_told fits known backup other main =
       grind (arith, known_length, bytes_of, told_there, known_of, nothing, get_or-set_same, get_or-set_other, cases_eq, set_past, cases_lt)
@@ -129,7 +129,7 @@ applied_told {log} teller segment size {count} fits before = record {
       (omega (arith, before.count_is backed few, committed_told log teller segment size));
 }
 
--- ---- Where not every backup is known to hold all entries of a log, some backup is to be sent bytes.
+-- ---- If not every backup is known to hold all entries of a log, some backup is to be sent bytes.
 
 -- ---- tests of lists
 
@@ -139,7 +139,7 @@ pub record FailsAt {X : Type 0} (test : X → Bool) (list : List X) (none : X) :
   pub within : place < length list
   pub fails : test (get_or list place none) ≡ false
 
--- where not all pass, one fails
+-- if not all pass, one fails
 pub fails_at : {X : Type 0} (test : X → Bool) (list : List X) (none : X) → list_all test list ≡ false → FailsAt test list none
 fails_at test [] none fails = absurd (cc fails)
 fails_at test (x ∷ list) none fails = by (test x) refl fails (fails_at test list none)
@@ -151,7 +151,7 @@ fails_at test (x ∷ list) none fails = by (test x) refl fails (fails_at test li
         let rest = behind fails in
         record { place = suc rest.place; within = omega (arith, rest.within); fails = rest.fails }
 
--- where one passes, one is found
+-- if one passes, one is found
 found_at : {X : Type 0} (test : X → Bool) (list : List X) (place : ℕ) (none : X)
     → place < length list → test (get_or list place none) ≡ true → is_some (find test list) ≡ true
 found_at test [] place none within passes = absurd (omega arith)
@@ -197,7 +197,7 @@ pub record Lacks (log : Log) : Type 0 where
   pub there : IsBackup log backup
   pub sent : is_some (pending log backup) ≡ true
 
--- what is found is there also where it is changed
+-- what is found is there also if it is changed
 still_some : {X Y : Type 0} (change : X → Y) (found : Option X) → is_some found ≡ true → is_some (option_map change found) ≡ true
 still_some change (Some x) is = refl
 still_some change None is = is
@@ -216,7 +216,7 @@ module _ (log : Log) (behind : committed log < length log.entries) where
   lacking : FailsAt (λ (backup : Known). reaches backup next) log.known nothing
   lacking = fails_at (λ (backup : Known). reaches backup next) log.known nothing (prefix_len_stops (is_held log.known) (ends log.entries) none next_within)
 
-  -- the segment that it stands in is not known to be held whole
+  -- the segment that it is in is not known to be held whole
   not_whole : (known : Known) → reaches known next ≡ false → is_some (find (λ segment. not (is_whole known segment)) (segments log)) ≡ true
   not_whole known fails =
       let at = ends_within [] log.entries (committed log) none next_within in

@@ -32,7 +32,7 @@ appends_some master lack =
       append_some master lack.backup (pending master.log lack.backup) lack.sent,
     )
 
--- where entries are staged, not all are applied
+-- if entries are staged, not all are applied
 some_staged : (master : Master) → staged master ≢ [] → master.applied < length master.log.entries
 some_staged master some = ⊎_elim (λ (less : master.applied < length master.log.entries). less)
     (λ (past : length master.log.entries ≤ master.applied).

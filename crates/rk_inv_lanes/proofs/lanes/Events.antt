@@ -18,7 +18,7 @@ pub record StoresMore (w : World) (backups : NumberMap Segments) : Type 0 where
 abbrev pub MayStore : World → NumberMap Segments → Type 0
 MayStore w backups = (backups ≡ w.backups) ⊎ StoresMore w backups
 
--- something of a lane is so where an event changes nothing but, at most, what a backup stores, and after each other thing that it may come to
+-- something of a lane is so if an event changes nothing but, at most, what a backup stores, and after each other thing that it may come to
 pub record Covers (R : World → Type 0) (w : World) (event : Event) (called : Called) : Type 0 where
   pub quiet : (backups : NumberMap Segments) → MayStore w backups → R (quietly (record w { backups = backups })).world
   -- a master that lives takes a message, or its turn
@@ -40,7 +40,7 @@ pub record Covers (R : World → Type 0) (w : World) (event : Event) (called : C
       → R (quietly (with_ledger w (with_client w.ledger client))).world
   pub forgets : (number : ℕ) → event ≡ Event.Forget number → R (quietly (with_wire w (without_message number w.wire))).world
   pub moves : (tablet to : ℕ) → R (quietly (with_coordinator w (tablet_migrated w.coordinator tablet to))).world
-  -- the rows of a tablet are split, and so is the tablet where its owner lives
+  -- the rows of a tablet are split, and so is the tablet if its owner lives
   pub parts : (tablet at new : ℕ) → R (quietly (with_coordinator w (rows_split w.coordinator tablet at new))).world
   pub splits : (tablet at new number master term : ℕ)
       → R (quietly (with_coordinator (with_master w master (with_split (master_at w master) number at new term))

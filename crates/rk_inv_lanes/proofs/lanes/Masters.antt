@@ -9,7 +9,7 @@ use Rattle.rk_inv_lanes.proofs.lanes.Events.{Covers, event_covered}
 abbrev pub AllAre : (ℕ → Master → Type 0) → World → Type 0
 AllAre P w = (number : ℕ) → P number (master_at w number)
 
--- each change of a master keeps it: a message that reaches one that lives, a turn, a tablet that is added, and one that is split
+-- each change of a master keeps it: a message that reaches a living master, a turn, a tablet that is added, and a tablet that is split
 pub record IsKeptByEach (P : ℕ → Master → Type 0) (w : World) (event : Event) : Type 0 where
   pub now : AllAre P w
   pub steps : (number master : ℕ) (message : Message) → event ≡ Event.Deliver number → get w.wire.messages number ≡ Some message

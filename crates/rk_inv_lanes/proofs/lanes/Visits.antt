@@ -21,7 +21,7 @@ module _ (V : Visited → Type 0) (w : World) (session : Session) where
   accepting_covered number still takes = grind (arith, by_found, accepting, cond_both, is_asked_here, taking, untouched)
 
 module _ (R : World → Type 0) (w : World) (session : Session) (now : R w) where
-  -- so it is with the lane, also where the turn or the answer is refused
+  -- so it is with the lane, also if the turn or the answer is refused
   pub ask_covered : ((call : Call) (turned : ClientTurn) → session.outstanding ≡ Some call → R (asking_by w session call (Some turned)).world)
       → R (world_visited w (ask w session))
   ask_covered asks = grind (arith, by_found, world_visited, ask_by, ask_refusal, asking_covered)

@@ -28,7 +28,7 @@ filled_says journal served master call answer = grind (arith, at_same, place_of)
 
 -- ---- what is on the wire
 
--- the message that is there now is the one that was sent
+-- the message that is there now is the message that was sent
 one_sent : (wire : Traffic) (sent message : Message) (new : ℕ) → get wire.messages new ≡ None
     → get (with_message sent wire).messages new ≡ Some message → sent ≡ message
 one_sent wire sent message new free there = grind (arith, get_same, get_other, cases_eq)

@@ -13,7 +13,7 @@ use Rattle.rk_inv_lanes.specs.late.Unchanged.{IsUnchanged, IsUntouched}
 use Rattle.rk_inv_lanes.proofs.late.Orders.{Stays, says_ready, says_transfer, stays_quiet}
 use Rattle.rk_inv_wellformed.proofs.maps.Lists.{either_way}
 
--- What the coordinator makes of a report that comes late, or that no row waits for: it stays as it is, and at most tells an owner again.
+-- What the coordinator makes of a report that is late, or that no row waits for: it stays as it is, and at most sends an owner Own again.
 
 -- ---- the row that a report speaks of
 
@@ -47,7 +47,7 @@ module _ (coordinator : Coordinator) (sender : ℕ) where
       → report coordinator sender body ≡ unanswered coordinator
   report_unawaited body tenure row says found other untold = grind (arith, about_row, cond-false)
 
-  -- ---- an owner that is told again
+  -- ---- an owner to which Own is sent again
 
   own_again : (row : Row) (master : ℕ) → (sender == master) ≡ true
       → cond (sender == master) (answered coordinator (own_to master row ∷ [])) (unanswered coordinator)
@@ -79,7 +79,7 @@ pub comes_to : (P : World → Type 0) (w : World) (number master : ℕ) (message
     → P (happened w (Event.Deliver number) called).world
 comes_to P w number master message called there its holds = comes P w number message called there (rw its holds)
 
--- what is so where the master has crashed, and once it has taken the message, is so once that has reached it
+-- what is so if the master has crashed, and once it has taken the message, is so once that has reached it
 pub reaches : (P : World → Type 0) (w : World) (master : ℕ) (message : Message) → P (losing w).world
     → P (worked_at w master (seen_in message.body) (master_step (master_at w master) message)).world
     → P (to_master w master message).world

@@ -45,7 +45,7 @@ module _ (w : World) (new : ℕ) (message : Message) (called : Called) (free : g
   nothing : {X : Type 0} → get w.wire.messages new ≡ Some message → X
   nothing there = let apart : None ≡ Some message = sym free ∙ there in absurd (cc apart)
 
-  -- where messages are sent
+  -- when messages are sent
   sending : {sends : List Message} → RefuseNone sends → IsExplained (with_sends w sends).world
   sending {sends} plain there = inl (fold_plain w.wire sends new message plain.each nothing there)
 

@@ -12,8 +12,8 @@ use Rattle.rk_inv_base.proofs.Words.{value_written, with_tablet, without_items, 
 use Rattle.rk_world.specs.Master.{with_call, with_item}
 use Rattle.rk_inv_wellformed.proofs.maps.Lists.{fold_keeps_all, either_way}
 
--- it stays so where an entry that may be appended is, where a side segment becomes known, where an item that fits is put into the records,
--- where the items of a range are dropped from them, and where a tablet is put that has sealed few side segments, with these lists of workers
+-- it stays so when an entry that may be appended is, when a side segment becomes known, when an item that fits is put into the records,
+-- when the items of a range are dropped from them, and when a tablet is put that has sealed few side segments, with these lists of workers
 pub record Lasts (P : Master → Type 0) (Fits : Held → Type 0) (May : Entry → Type 0) (Few : List ℕ → List (List Held) → Type 0) : Type 0 where
   pub appended : (master : Master) (entry : Entry) → May entry → P master → P (with_appended master entry)
   pub sealed : (master : Master) (items : List Held) → P master → P (with_side_segment master items)
@@ -22,7 +22,7 @@ pub record Lasts (P : Master → Type 0) (Fits : Held → Type 0) (May : Entry �
   pub tablet : (master : Master) (number : ℕ) (tablet : Tablet) → Few tablet.pulling.sealed tablet.pulling.sides → P master
       → P (with_tablet master number tablet)
   pub given_up : (master : Master) (number : ℕ) (range : Range) → P master → P (with_others_given_up master number range)
-  -- each tablet has sealed few, and one that pulls anew has
+  -- each tablet has sealed few, and so has a tablet that pulls anew
   pub few : (master : Master) (number : ℕ) → P master → Few (tablet_at master number).pulling.sealed (tablet_at master number).pulling.sides
   pub all : (master : Master) → P master → All (λ entry. Few entry.1.pulling.sealed entry.1.pulling.sides) master.tablets
   pub none : Few [] ([] ∷ [] ∷ [] ∷ [] ∷ [])
@@ -63,7 +63,7 @@ MayLeave May master call (Refuses found absent) = May (refusal_of call found abs
 MayLeave May master call _ = ⊤
 
 module _ {P : Master → Type 0} {Fits : Held → Type 0} {May : Entry → Type 0} {Few : List ℕ → List (List Held) → Type 0} (lasts : Lasts P Fits May Few) where
-  -- what is made where a test holds has it, and so has what is made where it does not
+  -- what is made if a test holds has it, and so has what is made if it does not
   pub either_work : (test : Bool) (one other : Worked) → P one.master → P other.master → P (cond test one other).master
   either_work test one other = either_way (λ (worked : Worked). P worked.master) test
 
@@ -74,7 +74,7 @@ module _ {P : Master → Type 0} {Fits : Held → Type 0} {May : Entry → Type 
 
   -- ---- requests
 
-  -- where it stays so once the call waits
+  -- if it stays so once the call waits
   pub chosen_has : (master : Master) (asked : ℕ) (call : Call) (choice : Choice) → MayLeave May master call choice → P (with_call master call)
       → P master → P (chosen master asked call choice).master
   chosen_has master asked call (Wants number) may called has = lasts.tablet master number _ (lasts.few master number has) has

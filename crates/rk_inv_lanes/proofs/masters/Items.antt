@@ -38,7 +38,7 @@ module _ (P : OfItems) (Fits : Held → Type 0) (lasting : IsLasting (about P) F
       (All-take (λ entry. All Fits (items_in entry)) (committed known.log) known.log.entries (all_given Fits items_in known.log.entries each)))
       has)
 
-  -- a message, where what the log has and what is replayed fit
+  -- a message, if what the log has and what is replayed fit
   pub step_has : (master : Master) (message : Message) → All Fits (items_of master.log.entries) → All Fits (replayed_of master message.body)
       → Has (about P) master → Has (about P) (master_step master message).master
   step_has master message own each has = told_has (of_lasting lasting) master message.from message.body

@@ -4,7 +4,7 @@ use Rattle.rk_inv_base.proofs.Words.{Body, CopySegment, Got, Master, Message, No
 use Rattle.rk_inv_base.proofs.Words.{changed, copy_taken, from_master, is_frozen_at, order, peer_message, ready, sending, tablet_at}
 use Rattle.rk_inv_base.proofs.Words.{transfer}
 
--- something of a message that is taken and of what is sent: it is so where nothing is sent, and where one of these messages is
+-- something of a message that is taken and of what is sent: it is so if nothing is sent, and if one of these messages is
 pub record IsSaid (S : Body → List Message → Type 0) : Type 0 where
   pub silent : (body : Body) → S body []
   pub says_ready : (master : Master) (prepare : Prepare) (from : ℕ) → S (Body.Prepare prepare) (ready master prepare.tenure from ∷ [])

@@ -55,7 +55,7 @@ makes_any lasting master sender body = grind (arith, call_of, choice_of, found)
 module _ {P : Master → Type 0} {Fits : Held → Type 0} {May : Entry → Type 0} {Few : List ℕ → List (List Held) → Type 0} (lasts : Lasts P Fits May Few) where
   -- ---- items are replayed
 
-  -- each goes into the records where it is newer
+  -- each goes into the records if it is newer
   replay_has : (master : Master) (number worker : ℕ) (items : List Held) → All Fits items → P master → P (replay master number worker items)
   replay_has master number worker items each has =
       fold_keeps_all P Fits (replay_one number worker) items master has each
@@ -64,7 +64,7 @@ module _ {P : Master → Type 0} {Fits : Held → Type 0} {May : Entry → Type 
       (lasts.replayed (tablet_at now number).pulling.sealed (tablet_at now number).pulling.sides worker _ (lasts.few now number kept))
       (lasts.put now item fits kept)) kept)
 
-  -- those of a Got are replayed where it is awaited
+  -- those of a Got are replayed if it is awaited
   got_has : (master : Master) (message : Got) → All Fits (got_items master message) → P master → P (got_taken master message).master
   got_has master message each has =
       grind (arith, tablet_at, replay, items_of, changed, hashes_resolved, is_receiving_at, is_batch, replay_has)
@@ -92,7 +92,7 @@ module _ {P : Master → Type 0} {Fits : Held → Type 0} {May : Entry → Type 
       joining_has now number (tablet_at now number).pulling.sealed
       (lasts.tablet (fold with_side_segment master pieces) number _ few (kept_by_fold P with_side_segment lasts.sealed pieces master has))
 
-  -- those of a Pulled are replayed where it is that of the token
+  -- those of a Pulled are replayed if it is that of the token
   pulled_has : (master : Master) (pulled : Pulled) → MaySeal P Few master pulled → All Fits (pulled_items master pulled) → P master
       → P (pulled_taken master pulled).master
   pulled_has master pulled seals each has = go (is_receiving_at tablet pulled.tenure.term && is_token pulled.token tablet.pulling.token) refl each
@@ -189,12 +189,12 @@ module _ {P : Master → Type 0} {Fits : Held → Type 0} {May : Entry → Type 
   order_has master (Body.Rebuild rebuild) may has = rebuild_has master rebuild may has
   order_has master _ may has = has
 
-  -- where what is replayed fits
+  -- if what is replayed fits
   pub peer_has : (master : Master) (other : ℕ) (body : Body) → Makes P May Few master (Node.Master other) body
       → All Fits (replayed_of master body) → P master → P (peer_message master (Node.Master other) body).master
   peer_has master other body may each has = grind (arith, either_work, is_frozen_at, tablet_at, changed, pulled_has, got_has)
 
-  -- a message, where it stays so once a call waits and at what a backup tells
+  -- a message, if it stays so once a call waits and at what a backup reports
   pub told_has : (master : Master) (sender : Node) (body : Body) → Makes P May Few master sender body → ((call : Call) → P (with_call master call))
       → ((backup : ℕ) (stored : Stored) → P (stored_taken master backup stored (overreach master.log stored.segment stored.length)).master)
       → All Fits (replayed_of master body) → P master → P (told_master master sender body).master

@@ -63,7 +63,7 @@ side_items : (sides : List (List Held)) → items_of (flat_map as_entries sides)
 side_items [] = refl
 side_items (side ∷ sides) = grind (arith, flat_map-append, items_in, as_entries, items_again, (side_items sides))
 
--- the items of one side segment stand among those of all
+-- the items of one side segment are among those of all
 one_side : (sides : List (List Held)) (place : ℕ) (e : Entry) → Contains (as_entries (slice_index_or sides place [])) e
     → Contains (flat_map as_entries sides) e
 one_side [] place e at = absurd (omega (arith, at.1))
@@ -125,7 +125,7 @@ module _ (v : View) (sound : SoundView v) (readable : AreReadable v.logs v.writt
   abbrev own : List Entry
   own = own_entries v master row.tablet
 
-  -- the master, as the one that rebuilds the row
+  -- the master, as the rebuilder of the row
   rebuilder : IsRebuilderIn v.logs v.written v.stored row lineage master (truths v row) (v.handovers master row.tablet)
       (v.completions master row.tablet) (v.gathers master row.tablet) (v.merged master row.tablet) (v.records master)
   rebuilder = (subst (λ (phase : Phase). RowIsRebuilt row phase (truths v row) v.logs v.written v.stored v.handovers v.completions v.gathers
@@ -228,7 +228,7 @@ merged_bytes : (id : ℕ) (master : Master) (merged : Merged) (handover : Handov
 merged_bytes id master merged handover order few =
     grind (arith, all_tablets, all_bytes, bytes_appended, bytes_put, carried_fits)
 
--- nothing is copied where there are no more bytes than before
+-- nothing is copied if there are no more bytes than before
 none_copied : {w : World} {master : ℕ} {copy : CopySegment} → log_bytes (copy_taken (master_at w master) copy).master ≤ log_bytes (master_at w master)
     → CopiesLogged w master copy
 unfolding IsStrictlySortedBy
@@ -339,7 +339,7 @@ module _ (w : World) (number backup master : ℕ) (copy : CopySegment) (sound : 
               );
         }
 
-  -- where it does not await the Copy it copies nothing
+  -- if it does not await the Copy it copies nothing
   taken_logged : (awaited : Bool) → awaits (master_at w master) copy ≡ awaited → CopiesLogged w master copy
   taken_logged true is = by_next is (next_after (master_at w master) copy) refl
   taken_logged false is = grind (arith, copy_taken, master_at, changed, cond-false, rebuild_goes_on, none_copied, log_bytes)

@@ -37,11 +37,11 @@ use Rattle.rk_inv_lanes.proofs.room.Pulled.{replayed_logged}
 use Rattle.rk_inv_lanes.proofs.room.Replays.{got_within, pulled_within}
 use Rattle.rk_inv_lanes.proofs.room.Sums.{apart_bytes, records_few}
 
--- ---- What is logged stays so where a log grows, and records stay those of items that have something, where what is put into them has it.
+-- ---- What is logged stays so when a log grows, and records stay those of items that have something, if what is put into them has it.
 
 -- ---- logs
 
--- what stands in two lists stands there with more between them
+-- what is in two lists is there with more between them
 stands_between : (front more back : List Held) (item : Held) → Contains (front ++ back) item → Contains ((front ++ more) ++ back) item
 stands_between front more back item at = ⊎_elim
     (λ (first : Contains front item). Contains-append_left (front ++ more) back item (Contains-append_left front more item first))
@@ -79,7 +79,7 @@ logged_last before = record {
 abbrev pub AreRecordsOf : (Held → Type 0) → OfItems
 AreRecordsOf Fits entries sides records = IsInScanOrder records × All Fits records
 
--- they stay so where what is put into them fits
+-- they stay so if what is put into them fits
 pub records_last : {Fits : Held → Type 0} → IsLasting (about (AreRecordsOf Fits)) Fits
 records_last {Fits} = record {
   appended = λ master entry are. are;
@@ -96,7 +96,7 @@ pub replayed_is : (w : World) (event : Event) (number master : ℕ) (message : M
     → replayed_at w event ≡ replayed_of (master_at w master) message.body
 replayed_is w event number master message is found to lives = grind (arith, cond-false, has_crashed, master_at)
 
--- what is so of the log and the records of each master of a lane, crashed ones too, stays so, where what is replayed fits
+-- what is so of the log and the records of each master of a lane, crashed ones too, stays so, if what is replayed fits
 event_has : (P : ℕ → OfItems) (Fits : Held → Type 0) → ((master : ℕ) → IsLasting (about (P master)) Fits) → (w : World)
     → ((master : ℕ) → All Fits (items_of (master_at w master).log.entries)) → AllAre (λ master. Has (about (P master))) w
     → (event : Event) (called : Called) → All Fits (replayed_at w event) → AllAre (λ master. Has (about (P master))) (happened w event called).world
@@ -143,7 +143,7 @@ its_items w master =
     })
     items (All-contains_itself items)
 
--- after an event each master has records of what was logged before it, where what is replayed was
+-- after an event each master has records of what was logged before it, if what is replayed was
 pub records_were_logged : (w : World) (event : Event) (called : Called) → AreLogged w → All (IsLogged w) (replayed_at w event)
     → (master : ℕ) → HasRecordsOf (IsLogged w) (master_at (happened w event called).world master)
 records_were_logged w event called logged each master =
@@ -162,7 +162,7 @@ logged_event w event called logged each = grind (arith, happened, logged_grows, 
 abbrev HasThose : World → Part
 HasThose w masters count backups = w.masters ≡ masters
 
--- so records are logged there where they are here
+-- so records are logged there if they are here
 same_logged : (w v : World) → w.masters ≡ v.masters → AreLogged w → AreLogged v
 same_logged w v same logged = grind (arith, master_at)
 
@@ -182,12 +182,12 @@ logged_new lane masters backups master =
     subst (HasRecordsOf (IsLogged w)) (sym (each_fresh lane masters backups master).is_new)
     (record { ordered = in_order_none; logged = All-nil (IsLogged w) })
 
--- ---- A sound and well formed lane with room, where records are logged and entries fit, has room after each event that is not refused, and
+-- ---- A sound and well formed lane with room, whose records are logged and entries fit, has room after each event that is not refused, and
 -- records are logged and entries fit then.
 
 -- ---- a message reaches a living master
 
--- a lane where a message stands on the wire for a master that lives
+-- a lane in which a message is on the wire for a living master
 record StandsFor (w : World) (number master : ℕ) (from : Node) (body : Body) : Type 0 where
   sound : IsSound w
   formed : IsWellFormed w
@@ -206,7 +206,7 @@ module _ (w : World) (number master : ℕ) where
   HasFew now = log_bytes now ≤ log_bytes old + 2 * bytes_of_logs w + LONGEST_LEFT
 
   module _ (from : Node) (body : Body) (stands : StandsFor w number master from body) where
-    -- where the message brings nothing
+    -- if the message brings nothing
     plain : brought_by old body ≡ 0 → HasFew (told_master old from body).master
     plain none =
         omega (

@@ -41,8 +41,8 @@ use Rattle.rk_inv_events.proofs.Below.{Part, accept_keeps, ask_keeps}
 use Rattle.rk_inv_lanes.proofs.lanes.Masters.{IsKeptByEach, each_kept}
 use Rattle.rk_inv_events.proofs.events.Coordinating.{of_master}
 
--- A master's entries fit, and its tablets have sealed few side segments: it stays so at each message that the master takes, where it has few bytes
--- before and then, at its turn, and where a tablet is split.
+-- A master's entries fit, and its tablets have sealed few side segments: it stays so at each message that the master takes, if it has few
+-- bytes before and then, at its turn, and when a tablet is split.
 
 -- ---- what fits
 
@@ -82,7 +82,7 @@ put_fit master number tablet few fit = record {
   sealed = each_insert IsFewAt master.tablets number tablet fit.sealed few;
 }
 
--- the tablet under a number has sealed few side segments, also one that the master does not know
+-- the tablet under a number has sealed few side segments, also a tablet that the master does not know
 pub few_at : (master : Master) (number : ℕ) → IsFit master → IsFewAt number (tablet_at master number)
 few_at master number fit = each_or IsFewAt no_tablet master.tablets number none_few fit.sealed
 
@@ -95,7 +95,7 @@ changed_fit change gives master fit = record {
   sealed = each_changed IsFewAt IsFewAt change gives master.tablets fit.sealed;
 }
 
--- so a master that fits does so where entries that fit are appended and such tablets are put
+-- so a master that fits does so when entries that fit are appended and such tablets are put
 pub fit_lasts : Lasts IsFit (λ item. ⊤) FitsSegment AreFew
 fit_lasts = record {
   appended = λ master entry fits fit. record {
@@ -118,7 +118,7 @@ fit_lasts = record {
   closes = λ tablet few. joined_fits tablet few.few;
 }
 
--- ---- what a backup tells
+-- ---- what a backup reports
 
 -- a tablet that notes the end of a call keeps what it sealed
 noted_fit : (master : Master) (call : Call) (end : Ended) → IsFit master → IsFit (with_noted master call end)
@@ -136,7 +136,7 @@ applied_fit = record {
   goes_on = λ master first later one two fit. two (one fit);
 }
 
--- a master that takes what a backup tells
+-- a master that takes what a backup reports
 stored_fit : (master : Master) (backup : ℕ) (stored : Stored) (over : Option Overreach) → IsFit master
     → IsFit (stored_taken master backup stored over).master
 stored_fit master backup stored (Some beyond) fit = fit

@@ -40,11 +40,11 @@ module _ (range : Range) (marks : List Mark) (sides : List (List Held)) (from : 
   abbrev free : List Entry
   free = unmarked_from marks from list
 
-  -- an entry without a mark stands in the log
+  -- an entry without a mark is in the log
   free_stood : (entry : Entry) → Contains free entry → Contains list entry
   free_stood entry at = later_stands 0 from list entry (omega arith) (unmarked_stood marks from (drop from list) entry at)
 
-  -- so an item that counts is an entry of it, or stands in a side segment
+  -- so an item that counts is an entry of it, or is in a side segment
   material_items : (item : Held) → Contains (items_of (log_material range marks sides from list)) item → Contains (items_of list ++ all_sides sides) item
   material_items item at =
       let numbers : List ℕ = named range free in
@@ -84,7 +84,7 @@ module _ (w : World) (sound : IsSound w) (number master : ℕ) (from : Node) (li
   abbrev v : View
   v = view w
 
-  -- the message stands on the wire
+  -- the message is on the wire
   abbrev Stands : Body → Type 0
   Stands body = get w.wire.messages number ≡ Some (record { from = from; to = Node.Master master; body = body })
 

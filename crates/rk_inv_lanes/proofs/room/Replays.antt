@@ -20,7 +20,7 @@ use Rattle.rk_inv_events.proofs.events.Coordinating.{of_master}
 
 -- ---- what records lack
 
--- the bytes of an item where it is newer than what records have of its key, and else 0
+-- the bytes of an item if it is newer than what records have of its key, and else 0
 abbrev lacks : List Held → Held → ℕ
 lacks records item = if is_newer item (found item.table item.key records) then spelled_of item else 0
 
@@ -53,13 +53,13 @@ put_less list put records order newer stands =
 
 -- ---- what is taken
 
--- the items that a replay takes: each where it is newer than what the records have then
+-- the items that a replay takes: each, if it is newer than what the records have then
 abbrev taken : List Held → List Held → List Held
 taken records [] = []
 taken records (item ∷ items) =
     if is_newer item (found item.table item.key records) then item ∷ taken (with_newer item records) items else taken records items
 
--- they have no more bytes than the records lack of a list where all items stand
+-- they have no more bytes than the records lack of a list that has all the items
 taken_few : (list items records : List Held) → IsInScanOrder records → All (λ item. Contains list item) items
     → sum_by spelled_of (taken records items) ≤ lacking list records
 taken_few list [] records order stand = omega arith
@@ -127,7 +127,7 @@ module _ (w : World) (number : ℕ) (formed : IsWellFormed w) where
 
 -- ---- what a target takes
 
--- what becomes of a replay where a test holds is the same where only the entries of what is taken are replayed
+-- what becomes of a replay if a test holds is the same if only the entries of what is taken are replayed
 replay_where : (test : Bool) (after : Master → Worked) (number worker : ℕ) (items : List Held) (master : Master)
     → cond test (after (replay master number worker items)) (changed master)
     ≡ cond test (after (replay master number worker (items_of (as_entries (taken master.records (cond test items [])))))) (changed master)
@@ -166,7 +166,7 @@ pulled_within {w} number pulled formed logged =
       taken_bytes w number formed items logged,
     ))
 
--- and one that takes such a Got at most the bytes of all logs more
+-- and a master that takes such a Got at most the bytes of all logs more
 pub got_within : {w : World} (number : ℕ) (message : Got) → IsWellFormed w → All (IsLogged w) (got_items (master_at w number) message)
     → log_bytes (got_taken (master_at w number) message).master ≤ log_bytes (master_at w number) + bytes_of_logs w
 got_within {w} number message formed logged =

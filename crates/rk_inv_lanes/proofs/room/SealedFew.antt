@@ -15,7 +15,7 @@ use Rattle.rk_inv_wellformed.proofs.masters.Sealing.{items_spelled}
 alone_bytes : (item : Held) → items_bytes (item ∷ []) ≡ spelled_of item
 alone_bytes item = omega (arith, first_bytes item [], none_bytes)
 
--- where an item does not fit a segment, it and the items there have more bytes than a segment may have
+-- if an item does not fit a segment, it and the items there have more bytes than a segment may have
 beyond_segment : (items : List Held) (item : Held) → nat_le (sum (map spelled_of items) + spelled_of item) SEGMENT_BYTES ≡ false
     → SEGMENT_BYTES < items_bytes items + spelled_of item
 beyond_segment items item is = grind (arith, spelled_of, items_spelled, nat_tests)
@@ -33,7 +33,7 @@ last_bytes (items ∷ next ∷ more) = last_bytes (next ∷ more)
 abbrev AreFew : ℕ → ℕ → List (List Held) → Type 0
 AreFew less most pieces = SEGMENT_BYTES * length pieces + last_bytes pieces + less ≤ 2 * sum_by items_bytes pieces + most
 
--- there is one where an item was put
+-- there is one if an item was put
 one_at_least : (pieces : List (List Held)) (item : Held) → 1 ≤ length (with_side_item pieces item)
 one_at_least (items ∷ []) item = grind (arith, cond_both, nat_le, spelled_of)
 one_at_least _ item = omega arith
@@ -81,7 +81,7 @@ added_few less most items (next ∷ more) item few =
       sum_by-cons items_bytes items behind,
     )
 
--- also where it is the first one
+-- also if it is the first one
 put_few : (pieces : List (List Held)) (item : Held) → AreFew 0 SEGMENT_BYTES pieces → AreFew 0 SEGMENT_BYTES (with_side_item pieces item)
 unfolding last_bytes
 put_few [] item few = omega (arith, alone_bytes item, sum_by-cons items_bytes (item ∷ []) [])

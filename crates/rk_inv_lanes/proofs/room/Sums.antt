@@ -26,7 +26,7 @@ use Rattle.rk_entry.specs.Entries.{spelled_all}
 
 -- ---- sums
 
--- a number where a test holds, and else 0, is no greater than the number
+-- a number if a test holds, and else 0, is no greater than the number
 pub where_few : (test : Bool) (n : ℕ) → cond test n 0 ≤ n
 where_few true n = omega arith
 where_few false n = omega arith
@@ -42,7 +42,7 @@ module _ {X : Type 0} where
       (arith, sum_less f g less xs x each behind it, each y, sum_by-cons f y xs, sum_by-cons g y xs))
       (stands_cases y xs x stands)
 
-  -- the sum of things in strict order that stand in a list is no greater than that of the list, where none counts for more in it
+  -- the sum of things in strict order that are in a list is no greater than that of the list, if none counts for more in it
   sorted_within : (cmp : X → X → Ordering) (size most : X → ℕ) (xs ys : List X) → IsTotalOrder cmp → IsStrictlySortedBy cmp xs
       → ((x : X) → Contains xs x → Contains ys x) → ((x : X) → Contains xs x → size x ≤ most x) → sum_by size xs ≤ sum_by most ys
   unfolding IsStrictlySortedBy
@@ -66,7 +66,7 @@ module _ {X : Type 0} where
 abbrev pub all_logged : World → List Held
 all_logged w = flat_map (λ entry. logged_by entry.1) w.masters
 
--- what the log of a master of a map has stands among all
+-- what the log of a master of a map has is among all
 found_stands : (masters : NumberMap Master) (number : ℕ) (master : Master) (item : Held) → get masters number ≡ Some master
     → Contains (logged_by master) item → Contains (flat_map (λ entry. logged_by entry.1) masters) item
 found_stands [] number master item found stands = absurd (cc found)
@@ -79,7 +79,7 @@ found_stands (first ∷ rest) number master item found stands =
       | false ↦ λ later. Contains-append_right (logged_by first.1) others item (found_stands rest number master item later stands)
     ] found
 
--- what is logged stands there
+-- what is logged is there
 pub logged_stands : {w : World} {item : Held} → IsLogged w item → Contains (all_logged w) item
 logged_stands {w} {item} logged =
     by_found (λ found. Contains (logged_by (unwrap_or found (new_master logged.master []))) item → Contains (all_logged w) item)

@@ -139,7 +139,7 @@ entries_again list lawful =
     ap entries_of (sym (append-nil (spelled_all list))) ∙ all_again list [] (recursion_from_All IsLawfulEntry list lawful)
     ∙ ap (λ (more : List Entry). list ++ more) read_none ∙ append-nil list
 
--- a side segment that is stored has a number of one, and stands among them
+-- a side segment that is stored has a side segment's number, and is among them
 record IsSide (log : Log) (number : ℕ) : Type 0 where
   first : FIRST_SIDE_SEGMENT ≤ number
   within : number - FIRST_SIDE_SEGMENT < length log.sides
@@ -221,7 +221,7 @@ module _ (log : Log) (w : Written) (stored : ℕ → ℕ → List ℕ) (kept : I
 owned_unmarked : (crashed : List ℕ) {row : Row} {master : ℕ} {handover : Handover} {live : Bool} {written : Written} {mark : Mark} → IsOwnedLive crashed row.phase → MarkFits row master handover live written mark → ⊥
 owned_unmarked crashed owned fits = subst (IsOwnedLive crashed) fits.rebuilt.2 owned
 
--- so no log has one, where each tablet of a mark has a row
+-- so no log has one, if each tablet of a mark has a row
 unmarked : (crashed : List ℕ) (rows : List Row) (master : ℕ) (handovers : ℕ → Handover) (live : Bool) (written : Written) (marks : List Mark) → All (λ row. IsOwnedLive crashed row.phase) rows → All (λ mark. is_some (row_of rows mark.tablet) ≡ true) marks → All (λ row. All (λ mark. mark.tablet ≡ row.tablet → MarkFits row master (handovers row.tablet) live written mark) marks) rows → marks ≡ []
 unmarked crashed rows master handovers live written [] owned known fit = refl
 unmarked crashed rows master handovers live written (mark ∷ marks) owned known fit =
@@ -280,7 +280,7 @@ module _ (w : World) (sessions : List Session) (sound : IsSound w) (formed : IsW
         λ i. member_back range from (named master (eq-eqb master master refl)) alive i ++ []
     lineage_back range _ alive named = absurd alive
 
-    -- the backup stands for the row
+    -- what the backup stores represents the row
     row_stands : (row : Row) → Contains w.coordinator.rows row → StandsIn w row segments
     row_stands row has =
         let its = All-contains (λ (row : Row). IsTruth w.base row.range (truths (view w) row) w.ledger.journal) rows row sound.truth.true has in

@@ -8,7 +8,7 @@ use Rattle.rk_inv_lanes.proofs.lanes.Events.{Covers, MayStore, event_covered}
 use Rattle.rk_inv_lanes.proofs.lanes.Visits.{accept_covered, ask_covered}
 use Rattle.rk_inv_lanes.specs.stands.Backups.{IsNumbered}
 
--- ---- who tells
+-- ---- who reports
 
 -- numbers that rise by one
 pub range_numbered : (count first size : ℕ) → 1 ≤ first → first + size ≤ 1 + count → All (IsNumbered count) (range_with_len first size)
@@ -19,7 +19,7 @@ range_numbered count first (suc size) some few =
 
 -- ---- whatever happens
 
--- what holds of the backups that tell goes on where one of the lane's stores something
+-- what holds of the backups that report goes on when a backup of the lane stores something
 abbrev GoesOnStored : (ℕ → NumberMap Segments → Type 0) → Type 0
 GoesOnStored P =
     (count : ℕ) (backups : NumberMap Segments) (backup : ℕ) (segments : Segments) → IsNumbered count backup → P count backups

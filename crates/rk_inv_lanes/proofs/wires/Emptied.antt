@@ -23,7 +23,7 @@ taken_off_fewer w number message arrival order there =
       removed_there (λ message. deliveries_of message.body) w.wire.messages number message there,
     )
 
--- the masters stand in order still
+-- the masters are in order still
 forgotten_order : (w : World) (number : ℕ) → IsInOrder w.masters → IsInOrder (forgotten w number).masters
 forgotten_order w number order = grind (arith, by_found, world_stepped, stepped_by)
 
@@ -46,7 +46,7 @@ oldest_there (here ∷ messages) sent number oldest =
     let same : here.0 ≡ number = cc oldest in
     record { message = here.1; found = subst (λ (n : ℕ). get (here ∷ messages) n ≡ Some here.1) same (get_first here messages) }
 
--- where no delivery is left, nothing is on the wire
+-- if no delivery is left, nothing is on the wire
 none_oldest : (messages : NumberMap Message) (sent waits : ℕ) → sum_by (λ entry. deliveries_of entry.1.body) messages + waits ≤ 0
     → number_at 1 (record { messages = messages; sent = sent }) ≡ None
 none_oldest [] sent waits none = refl
@@ -55,7 +55,7 @@ none_oldest (here ∷ messages) sent waits none =
 
 -- ---- all messages
 
--- where nothing is on a wire, nothing comes
+-- if nothing is on a wire, nothing comes
 stays_silent : (arrivals : List Arrival) (w : World) → number_at 1 w.wire ≡ None → number_at 1 (emptied w arrivals).wire ≡ None
 stays_silent [] w silent = silent
 stays_silent (arrival ∷ arrivals) w silent = grind (arith, (stays_silent arrivals w silent))

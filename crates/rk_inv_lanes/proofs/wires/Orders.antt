@@ -12,7 +12,7 @@ use Rattle.rk_inv_lanes.proofs.masters.Changes.{of_lasting}
 fewer : IsSaid (λ body sends. deliveries_in sends < deliveries_of body)
 fewer = grind (arith, one_delivery)
 
--- where the same calls wait
+-- if the same calls wait
 keeping : (master : Master) (body : Body) (worked : Worked) → deliveries_in worked.sends < deliveries_of body → worked.master.calls ≡ master.calls
     → Spends (deliveries_of body) master worked
 keeping master body worked less kept = omega (arith, less, ap (λ (calls : NumberMap Call). length calls) kept)

@@ -49,12 +49,12 @@ sent_brings number (message ∷ messages) wire =
 
 -- ---- what a delivery leaves
 
--- beside one message, fewer deliveries are left than that message brought and were left before; and the masters stand in order
+-- beside one message, fewer deliveries are left than that message brought and were left before; and the masters stay in order
 pub record LeavesFewer (w : World) (number brings : ℕ) (now : World) : Type 0 where
   pub fewer : others_on now.wire number + waiting now.masters < brings + (others_on w.wire number + waiting w.masters)
   pub order : IsInOrder w.masters → IsInOrder now.masters
 
--- where nothing was sent, and no more calls wait
+-- if nothing was sent, and no more calls wait
 same_leaves : (w : World) (number : ℕ) (body : Body) → LeavesFewer w number (deliveries_of body) w
 same_leaves w number body = record { fewer = omega (arith, one_delivery body); order = λ order. order }
 

@@ -11,7 +11,7 @@ module _ {X : Type 0} (size : X → ℕ) where
   pub total-cons : (here : ℕ × X) (things : NumberMap X) → total size (here ∷ things) ≡ size here.1 + total size things
   total-cons here things = sum_by-cons (λ (entry : ℕ × X). size entry.1) here things
 
-  -- ---- a pair that is kept where a test holds
+  -- ---- a pair that is kept if a test holds
 
   kept_most : (b : Bool) (here : ℕ × X) (things : NumberMap X) → total size (cond b (here ∷ things) things) ≤ size here.1 + total size things
   kept_most true here things = omega (arith, total-cons here things)
@@ -46,7 +46,7 @@ module _ {X : Type 0} (size : X → ℕ) where
         | false ↦ λ e. omega (arith, removed_there things number thing e, total-cons here left, total-cons here things)
       ] found
 
-  -- where nothing was there, nothing is missing
+  -- if nothing was there, nothing is missing
   pub removed_none : (things : NumberMap X) (number : ℕ) → get things number ≡ None → total size (remove things number) ≡ total size things
   removed_none [] number none = refl
   removed_none (here ∷ things) number none =

@@ -26,7 +26,7 @@ use Rattle.rk_types.specs.declared.node.Node.TheVariants as nodes
 use Rattle.rk_message.specs.declared.message.Body.TheVariants as bodies
 use Rattle.rk_world.specs.declared.event.Event.TheVariants as events
 
--- what stands from a place on in a first part is a first part of what stands from there
+-- what a first part has from a place on is a first part of what the list has from there
 first_part : {X : Type 0} (from n : ℕ) (list : List X) → drop from (take n list) ≡ take (n - from) (drop from list)
 first_part from n list =
     ⊎_elim
@@ -90,7 +90,7 @@ module _ (range : Range) (marks : List Mark) (sides : List (List Held)) (from ap
       (material_in range (side_entries sides) kept) stands)))
       (Contains-append_cases (counting range kept) (counting range (named_entries kept)) entry found.1)
 
-  -- where nothing that is marked counts, the own entries do
+  -- if nothing that is marked counts, the own entries do
   own_counts : counting range (marked_entries marks from (drop from list)) ≡ [] → counting range kept ≡ own_ones
   own_counts none = search (first_part, counting, unmarked, taken_counts)
 
@@ -179,7 +179,7 @@ module _ (v : View) (row : Row) (source target : Member) (sound : SoundView v) (
       ∙ sym (was.live table key inside) ∙ ap (λ (l : List Held). live l table key) both_are ∙ live_alike both overlaid plain same table key
       ∙ sym (live_of_overlay (items_of of_source) (items_of own) table key)
 
--- of an empty range there is nothing to tell
+-- for an empty range there is nothing to show
 pub finished : (v : View) (row : Row) (source target : Member) → SoundView v → MayTakeJoined v row source.master source.from target.master target.from
     → IsFinished row.range (member_truth v.written row.range source) (member_truth v.written row.range target)
     (entries_from row.range target.from (applied_entries (v.written target.master)))

@@ -109,7 +109,7 @@ module _ (coordinator : Coordinator) (row : Row) (source target : Member) (apart
   rebuilt_stays sender rebuilt r at (Owned owner from) is = grind (arith, cond_both, answered, own_to, unanswered, unowned)
   rebuilt_stays sender rebuilt r at _ is = unowned
 
-  -- what was told of a row at its term
+  -- what was reported of a row at its term
   record IsAbout (sender : ℕ) (tenure : Tenure) (r : Row) : Type 0 where
     pub stands : Contains coordinator.rows r
     pub tablet_is : r.tablet ≡ tenure.tablet

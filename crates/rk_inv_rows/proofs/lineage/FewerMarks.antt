@@ -4,7 +4,7 @@ use Rattle.std.proofs.Common.{flat_map, ◌≤◌, Contains}
 use Rattle.rk_inv_base.proofs.Words.{cond-false, false≢true, Range, Entry, is_marked, unmarked, counting, counts, named_by, Mark}
 use Rattle.rk_inv_base.proofs.Words.{marked_entries, Call, Handover, Row, Written, Waits}
 
--- an entry tells nothing of a range: it does not count, and names no side segment
+-- an entry says nothing about a range: it does not count, and names no side segment
 pub record IsSilent (range : Range) (entry : Entry) : Type 0 where
   pub uncounted : counts range entry ≡ false
   pub unnamed : named_by range entry ≡ []
@@ -28,7 +28,7 @@ later_fewer range old new place entry list fewer =
           (rw (← there k) is);
     }
 
--- what is made of entries one by one, where a silent one leaves it as it is
+-- what is made of entries one by one, if a silent one leaves it as it is
 module _ {Y : Type 0} (range : Range) (make : List Entry → List Y) (step : Entry → List Y → List Y) (each : (entry : Entry) (list : List Entry) → make (entry ∷ list) ≡ step entry (make list)) (leaves : (entry : Entry) (made : List Y) → IsSilent range entry → step entry made ≡ made) where
   without_first : (entry : Entry) (list : List Entry) → IsSilent range entry → make (entry ∷ list) ≡ make list
   without_first entry list silent = each entry list ∙ leaves entry (make list) silent
@@ -88,6 +88,6 @@ module _ (range : Range) (old new : List Mark) (place : ℕ) (list : List Entry)
       same_free range (flat_map (named_by range)) (λ entry made. named_by range entry ++ made) (λ entry list. refl)
       (λ entry made silent. ap (λ (l : List ℕ). l ++ made) silent.unnamed) old new place list fewer
 
--- a call that waited waits in rows that still have its row, where its entry bears no mark and no more is applied than stands before it
+-- a call that waited waits in rows that still have its row, if its entry bears no mark and no more is applied than comes before it
 pub waits_with : (rows now : List Row) (handovers : ℕ → Handover) (w : Written) (marks : List Mark) (applied q n : ℕ) (call : Call) (wait : Waits rows handovers w q n call) → applied ≤ n → is_marked marks n ≡ false → Contains now wait.row → Waits now handovers (record w { marks = marks; applied = applied }) q n call
 waits_with rows now handovers w marks applied q n call wait behind free stands = search wait

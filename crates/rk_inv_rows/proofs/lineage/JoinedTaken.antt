@@ -96,7 +96,7 @@ module _ (v : View) (row : Row) (source sfrom target dfrom : ℕ) (sound : Sound
         at,
       )
 
-  -- no Joined of the range stands behind what is applied
+  -- no Joined of the range is behind what is applied
   pub unnamed : joined_from row.range (max dfrom w.applied) w.entries ≡ []
   unnamed = none_behind_applied row.range w.marks w.sides dfrom w.applied w.entries closing at.place log
 
@@ -254,7 +254,7 @@ module _ (v : View) (row : Row) (source sfrom target dfrom : ℕ) (sound : Sound
   live_with : (table : ℕ) (key : List ℕ) → live (items_of (now_truth ++ rest)) table key ≡ live (items_of (old_truth ++ rest)) table key
   live_with table key = grind (arith, live_over, items_of, scan_items, takes, both_with, plain_with, live, items_with)
 
-  -- ---- what the source told
+  -- ---- what the source handed over
 
   at_term : ((v.handovers source row.tablet).term ≡ row.term) × (taker.term ≡ row.term)
   at_term = in_phase (λ p. KeepTerm p (λ q. (v.handovers q row.tablet).term) row.term) row_was.at_term
@@ -268,7 +268,7 @@ module _ (v : View) (row : Row) (source sfrom target dfrom : ℕ) (sound : Sound
   beginning_is : beginning_of taker given ≡ beginning_in row given
   beginning_is i = entries.Carried (record { range = range_is i; term = may.term_is i; floor = given.floor; ends = given.ends })
 
-  -- the target has in its log what the source told, and has applied it
+  -- the target has in its log what the source handed over, and has applied it
   begins : Contains now_truth (beginning_in row given)
   begins =
       let told_of : IfSome (get v.handed row.tablet) (λ h. Contains (drop dfrom (take at.place w.entries)) (beginning_of taker h)) =
@@ -283,7 +283,7 @@ module _ (v : View) (row : Row) (source sfrom target dfrom : ℕ) (sound : Sound
       (longer_stands dfrom at.place w.applied w.entries (beginning_of taker given) (omega (arith, less)) stands)
       (ap (λ (range : Range). has_all range row.range) range_is ∙ has_itself row.range)))
 
-  -- so its own entries tell what they tell behind that
+  -- so its own entries record all that they record behind that
   abbrev behind_given : List Entry
   behind_given = beginning_in row given ∷ mine
 
@@ -318,7 +318,7 @@ module _ (v : View) (row : Row) (source sfrom target dfrom : ℕ) (sound : Sound
       let more = floor_among (of_key table key behind_given) (of_key table key now_truth) (key_stands table key) in
       omega (arith, below, more)
 
-  -- ---- so it tells all
+  -- ---- so it gives the whole history
 
   pub history : TellHistory v.base row.range now_truth rest v.journal v.asked
   history = record {

@@ -25,14 +25,14 @@ WhereBegun P = (source sfrom target dfrom : ℕ) → P (Opening source sfrom tar
 abbrev pub WhereMoved : (Phase → Phase → Type 0) → Type 0
 WhereMoved P = (source sfrom target dfrom : ℕ) → P (Moving source sfrom target dfrom) (Owned target dfrom)
 
--- then it holds where a row passes on
+-- then it holds whenever a row passes on
 pub passes_by : (P : Phase → Phase → Type 0) (old new : Phase) → WhereBegun P → WhereMoved P → PassesOn old new → P old new
 passes_by P old new begins ends passes = grind arith
 
 -- ---- what is known
 
 -- a row took another phase at its term. Nobody owned it, no target was invited, and who was to act for it keeps the row's term; a second
--- member keeps it too, where the row had not moved
+-- member keeps it too, if the row had not moved
 pub record HasPassed (v : View) (row : Row) (old new : Phase) : Type 0 where
   pub formed : IsFormed old → IsFormed new
   pub named : (q : ℕ) → names new q ≡ true → names old q ≡ true
@@ -69,7 +69,7 @@ pub record HasPassed (v : View) (row : Row) (old new : Phase) : Type 0 where
 
 -- ---- a tablet that passes on
 
--- what holds of either post holds of one that is chosen by a test
+-- what holds of each of these posts holds of the post that tests choose
 post_by : (P : Post → Type 0) (a b : Bool) (one other third : Post) → P one → P other → P third → P (cond a one (cond b other third))
 post_by P a b one other third first second last = grind arith
 
@@ -113,7 +113,7 @@ module _ (v : View) (row : Row) (phase : Phase) (handed : NumberMap Handed) (pas
   abbrev its_terms : ℕ → ℕ
   its_terms q = (v.handovers q row.tablet).term
 
-  -- a message is of the new row where it was of the old one
+  -- a message that is of the new row was of the old one
   was_of : (tenure : Tenure) → IsOf new tenure → IsOf row tenure
   was_of tenure is = record { tablet = is.tablet; term = is.term }
 
@@ -139,7 +139,7 @@ module _ (v : View) (row : Row) (phase : Phase) (handed : NumberMap Handed) (pas
   grant_agrees : (q : ℕ) (grant : Grant) → GrantAgrees row (v.handovers q row.tablet) (v.live q) (get v.handed row.tablet) q grant → GrantAgrees new (v.handovers q row.tablet) (v.live q) (get handed row.tablet) q grant
   grant_agrees q grant agrees = grind arith
 
-  -- a message that a target would take stands only where the row moved before, and then its target is no longer the second member
+  -- a message that a target would take is on the wire only if the row moved before, and then its target is no longer the second member
   never : (source target : Member) (more : List Member) → lineage_of phase ≡ source ∷ target ∷ more → (tenure : Tenure) → AfterMove row tenure → tenure.tablet ≡ row.tablet → tenure.term ≡ its_terms target.master → ⊥
   never source target more is tenure after its at =
       let both = passed.second source target more is in both.0 (after (record { tablet = its; term = at ∙ both.1 }))
@@ -171,7 +171,7 @@ module _ (v : View) (row : Row) (phase : Phase) (handed : NumberMap Handed) (pas
 
   -- ---- what is handed over
 
-  -- a target does not wait at a term of which a Grant stands
+  -- a target does not wait at a term of which a Grant is on the wire
   none_waits : (lineage : List Member) → lineage_of phase ≡ lineage → (tenure : Tenure) → AfterMove row tenure → ((eqb tenure.tablet row.tablet) && is_waiting_at (second_has v.handovers new (second_of lineage)) tenure.term) ≡ false
   none_waits (source ∷ target ∷ more) is tenure after =
       let waits = is_wanting (v.handovers target.master row.tablet).role in
@@ -204,11 +204,11 @@ module _ (v : View) (row : Row) (phase : Phase) (handed : NumberMap Handed) (sou
   nothing_handed : (P : Handed → Type 0) (n : ℕ) (m : Message) → get v.wire n ≡ Some m → IfSome (handed_by turned_row v.handovers m.body) P
   nothing_handed P n m there = rw (none_handed v row phase handed passed m.from m.to m.body (was.says n m there)) tt
 
-  -- a number is next behind what counts now, where it was
+  -- a number is next behind what counts now, if it was next behind what counted
   next_still : (number : ℕ) → IsNext (truths v row ++ rests v row) number → IsNext (truths v turned_row ++ rests v turned_row) number
   next_still number next = let low = may.floor in omega (arith, low, next)
 
-  -- where another member is the last now, no call waits for the row
+  -- if another member is the last now, no call waits for the row
   waits : (q n : ℕ) (call : Call) (wait : Waits v.rows (v.handovers q) (v.written q) q n call) → wait.row ≡ row → last_of (lineage_of phase) ≡ last_of (lineage_of row.phase)
   waits q n call wait is =
       ⊎_elim (λ (same : last_of (lineage_of phase) ≡ last_of (lineage_of row.phase)). same)

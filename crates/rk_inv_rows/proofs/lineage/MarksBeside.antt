@@ -19,7 +19,7 @@ use Rattle.rk_inv_rows.proofs.lineage.Untouched.{each_misses}
 use Rattle.rk_inv_rows.proofs.lineage.MarksTaken.{apart, fewer, marked_kept, material_kept, named_kept, rest_kept, silent_apart, taken_of}
 use Rattle.rk_inv_rows.proofs.lineage.MarksTaken.{truth_kept}
 
--- what is kept by two tests is kept by one that asks for both
+-- what two tests keep is what the test that implies the other keeps
 both_kept : {X : Type 0} (p keep : X → Bool) (xs : List X) → ((x : X) → p x ≡ true → keep x ≡ true) → filter p (filter keep xs) ≡ filter p xs
 both_kept p keep [] less = refl
 both_kept {X} p keep (x ∷ xs) less = grind (arith, false≢true, (both_kept p keep xs less))
@@ -86,7 +86,7 @@ module _ (v : View) (row : Row) (sound : SoundView v) (has_row : Contains v.rows
   given_up_as m =
       grind (arith, counting, marked_entries, both_kept, eqb, nat_lt, eqb-true, and_parts, false_from_ne_true, is_mark_of, nat_le)
 
-  -- an entry that counts for the other row bore no mark where it bears none
+  -- an entry that counts for the other row bore no mark if it bears none now
   free_before : (q place : ℕ) (entry : Entry) → slice_get (v.written q).entries place ≡ Some entry → counts other.range entry ≡ true → is_marked (new_marks q) place ≡ false → is_marked (old_marks q) place ≡ false
   free_before q place entry at counted free =
       false_from_ne_true (is_marked (old_marks q) place)
@@ -179,7 +179,7 @@ module _ (v : View) (row : Row) (sound : SoundView v) (has_row : Contains v.rows
   of_misses (entries.Carried carried) of = grind (arith, meets, apart)
   of_misses _ of = absurd of
 
-  -- so a piece of the other still stands last
+  -- so a piece of the other still comes last
   last_as : (q : ℕ) (mark : Mark) → StandsLast other.range (v.written q) mark → StandsLast other.range (now.written q) mark
   last_as q mark last =
       let list : List Entry = drop mark.first (v.written q).entries in

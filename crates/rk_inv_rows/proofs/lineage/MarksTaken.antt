@@ -11,7 +11,7 @@ use Rattle.rk_inv_base.proofs.views.Among.{taken_from, IsCovered, covered_by}
 use Rattle.rk_inv_rows.proofs.lineage.Pieces.{covered_of}
 use Rattle.rk_inv_rows.proofs.lineage.FewerMarks.{AreFewer, IsSilent, free_counts, free_names, marked_counts}
 
--- a test passes on a list where one that stands there passes it
+-- a test passes on a list if an element of the list passes it
 any_stands : {X : Type 0} (p : X → Bool) (xs : List X) (x : X) → Contains xs x → p x ≡ true → list_any p xs ≡ true
 any_stands p xs x stands passes = list_any_at p xs stands.0 x stands.1 (ap p stands.2 ∙ passes)
 
@@ -32,7 +32,7 @@ module _ (v : View) (row : Row) (sound : SoundView v) (has_row : Contains v.rows
   abbrev covers : ℕ → Mark → Bool
   covers place mark = nat_le mark.first place && nat_lt place mark.past
 
-  -- where an entry bore a mark and bears none now, that was one of the tablet
+  -- if an entry bore a mark and bears none now, that was a mark of the tablet
   pub record IsTaken (q place : ℕ) : Type 0 where
     pub covered : IsCovered (old_marks q) place
     pub tablet : covered.mark.tablet ≡ row.tablet

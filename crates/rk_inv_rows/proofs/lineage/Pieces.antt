@@ -33,9 +33,9 @@ module _ (v : View) (sound : SoundView v) (q : ℕ) where
       (λ marked.
       let is = covered_of place (entries.Joined joined) at (covered_by (v.written q).marks place marked) in is.of)
 
--- ---- where nothing that is marked counts, the same counts without it
+-- ---- if nothing that is marked counts, the same counts without it
 
--- the first of some entries, where none of them counts
+-- the first of some entries, if none of them counts
 first_counts : (range : Range) (b : Bool) (entry : Entry) (list : List Entry) → counts range entry ≡ b → counting range (entry ∷ list) ≡ [] → (b ≡ false) × (counting range list ≡ [])
 first_counts range b entry list is none = grind (arith, counting)
 
@@ -43,7 +43,7 @@ first_counts range b entry list is none = grind (arith, counting)
 without_first : (range : Range) (entry : Entry) (list : List Entry) → counts range entry ≡ false → counting range (entry ∷ list) ≡ counting range list
 without_first range entry list none = ap (λ (b : Bool). cond b (entry ∷ counting range list) (counting range list)) none
 
--- nothing that is marked counts, where the first of some entries stands at a place
+-- nothing that is marked counts among entries of which the first is at this place
 abbrev NoneCounts : Range → List Mark → ℕ → List Entry → Type 0
 NoneCounts range marks place list = counting range (marked_entries marks place list) ≡ []
 

@@ -71,7 +71,7 @@ module _ (v : View) (row : Row) (lineage : List Member) (to place : ℕ) (ends :
   abbrev piece : IsPieceOf row.tablet place builder merged_is.merged w at.entry
   piece = merged_is.piece
 
-  -- nothing of the range stands behind what is applied
+  -- nothing of the range is behind what is applied
   pub settled : list_any (touches row.range) (drop w.applied w.entries) ≡ false
   settled =
       let missed : All (Misses row.range) (drop (suc at.entry) w.entries) =
@@ -139,7 +139,7 @@ module _ (v : View) (row : Row) (lineage : List Member) (to place : ℕ) (ends :
   abbrev free_now : List Entry
   free_now = unmarked new_marks place front
 
-  -- what stands at a place of what is applied stands there in the log
+  -- what is at a place of what is applied is there in the log
   in_log : (k : ℕ) (entry : Entry) → slice_get front k ≡ Some entry → slice_get w.entries (place + k) ≡ Some entry
   in_log k entry stands =
       taken_from w.applied w.entries (place + k) entry (place_of (applied_entries w) place k (place + k) entry refl stands)
@@ -147,7 +147,7 @@ module _ (v : View) (row : Row) (lineage : List Member) (to place : ℕ) (ends :
   still : (n : ℕ) → is_marked new_marks n ≡ true → is_marked old_marks n ≡ true
   still n = any_kept (λ m. nat_le m.first n && nat_lt n m.past) (λ m. not (is_mark_of row.tablet row.term m)) old_marks
 
-  -- where a mark of the tablet covered an entry, that is one of the piece
+  -- an entry that a mark of the tablet covered is one of the piece
   covered_piece : (n : ℕ) (entry : Entry) → slice_get w.entries n ≡ Some entry → (covered : IsCovered old_marks n) → covered.mark.tablet ≡ row.tablet → Contains pieces entry
   covered_piece n entry stands covered tablet =
       let is : covered.mark ≡ mark =

@@ -14,11 +14,11 @@ use Rattle.rk_transfer.specs.declared.role.Role.TheVariants as roles
 post_by : (P : Post → Type 0) (lineage : List Member) (to q : ℕ) → (to ≡ q → P (rebuilder_post lineage q)) → P FormerMember → P Bystander → P (post_of (Rebuilding lineage to) q)
 post_by P lineage to q here former bystander = grind (arith, cond_both, eqb, rebuilder_post, is_member, eqb-true)
 
--- a living member is the one that rebuilds
+-- a living member is the master that rebuilds
 pub member_here : (lineage : List Member) (to q : ℕ) (role : Role) (term own applied : ℕ) → is_member lineage q ≡ true → Holds (bond_of (post_of (Rebuilding lineage to) q) role) term own applied → eqb to q ≡ true
 member_here lineage to q role term own applied inside fits = grind (arith, eqb, is_member, bond_of, rebuilder_post)
 
--- the place that a role told
+-- the place that a role records
 place_told : (role : Role) (applied one other : ℕ) → HasRebuilt role applied one → HasRebuilt role applied other → one ≡ other
 place_told (roles.Rebuilding from (Some entry)) applied one other a b = sym a.1 ∙ b.1
 place_told _ applied one other a b = absurd a

@@ -96,7 +96,7 @@ module _ (v : View) (row : Row) (lineage : List Member) (to place : ℕ) (ends :
   record_apart : (r : Row) → Contains v.rows r → (r.tablet ≡ row.tablet → ⊥) → (placed : Placed) → Contains made placed → is_record_in r.range placed ≡ true → ⊥
   record_apart r has unlike placed stands inside = grind (arith, false≢true, in_one_row, has_row, is_record_in)
 
-  -- so what tells of all records of another row still does
+  -- so what holds of all records of another row still does
   more : (r : Row) → Contains v.rows r → (r.tablet ≡ row.tablet → ⊥) → (P : Placed → Type 0) → All (λ placed. is_record_in r.range placed ≡ true → P placed) v.journal → All (λ placed. is_record_in r.range placed ≡ true → P placed) journal
   more r has unlike P all =
       All-append (λ placed. is_record_in r.range placed ≡ true → P placed) v.journal made all

@@ -47,7 +47,7 @@ module _ (v : View) (row : Row) (source sfrom target dfrom : ℕ) (given : Hande
   bare : IsBare row.range dfrom (v.written target) (v.records target)
   bare = grind (arith, range_at, waits_at)
 
-  -- ---- the source has told all
+  -- ---- the source has applied all
 
   done : IsDone v.written row.range first
   done = done_settled v.written row.range first some (row_was.idle source (inr may.term_is) (ap is_idle may.frozen))
@@ -136,7 +136,7 @@ module _ (v : View) (row : Row) (source sfrom target dfrom : ℕ) (given : Hande
   next : IsNext (truths v row ++ rests v row) given.floor
   next = grind (arith, floor_is, row_was, speaks, post_of, eqb, eq-eqb)
 
-  -- what the target begins with tells all ends, and is above all versions
+  -- what the target begins with records all ends, and is above all versions
   ends : TellAll row.range v.journal (beginning_in new given ∷ [])
   ends k d within inside mutates = rw (append-nil given.ends) (reached k d within inside mutates)
 

@@ -9,7 +9,7 @@ use Rattle.rk_table.specs.Items.{is_at}
 abbrev pub IsAlone : List Held → Held → Type 0
 IsAlone items x = (y : Held) → Contains items y → is_at x.table x.key y ≡ true → y ≡ x
 
--- an item that stands stays there where no other one of its key is put
+-- an item that is there stays there if no other one of its key is put
 put_stays : (done items : List Held) (x : Held) → IsAlone items x → Contains done x → Contains (fold (λ list item. with_item item list) done items) x
 put_stays done [] x alone stands = stands
 put_stays done (y ∷ items) x alone stands =
@@ -22,7 +22,7 @@ put_stays done (y ∷ items) x alone stands =
     (λ (other : is_at y.table y.key x ≡ false). other_put y done x stands other)
     (cases_Bool (is_at y.table y.key x)))
 
--- and one that is put stands then
+-- and an item that is put is there then
 put_each : (done items : List Held) (x : Held) → IsAlone items x → Contains items x → Contains (fold (λ list item. with_item item list) done items) x
 put_each done [] x alone stands = absurd (none_stands x stands)
 put_each done (y ∷ items) x alone stands =

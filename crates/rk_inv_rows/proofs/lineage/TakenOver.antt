@@ -94,7 +94,7 @@ module _ (source scan own copies target : List Held) (takes : TakesOver source s
   in_target : (x : Held) → Contains target x → Contains (source ++ target) x
   in_target x = Contains-append_right source target x
 
-  -- where the target has none of a key, the newest of the source is a tombstone
+  -- if the target has none of a key, the newest of the source is a tombstone
   removed : (table : ℕ) (key : List ℕ) (y : Held) → newest target table key ≡ None → newest (source ++ target) table key ≡ Some y → record_of (Some y) ≡ None
   removed table key y none is =
       let best = newest_is (source ++ target) table key y is in
@@ -150,7 +150,7 @@ module _ (source scan own copies target : List Held) (takes : TakesOver source s
 
 -- ---- its records
 
--- records have what came to a target, and of each key one that is not older
+-- records have what came to a target, and of each key a record that is not older
 pub record HasRecords (range : Range) (target records : List Held) : Type 0 where
   pub plain : IsPlain target
   pub order : IsInScanOrder records

@@ -27,7 +27,7 @@ item_counts range entry x stands inside = grind (arith, is_in, none_stands, stan
 pub names_joins : (range : Range) (entry : Entry) (n : ℕ) → Contains (named_by range entry) n → is_joined_in range entry ≡ true
 names_joins range entry n stands = grind (arith, cond_both, meets, none_stands)
 
--- one element is all that two lists have together, so where the first has one the second has none
+-- one element is all that two lists have together, so if the first has one, the second has none
 none_behind : {X : Type 0} (xs ys : List X) (one x : X) → xs ++ ys ≡ one ∷ [] → Contains xs x → ys ≡ []
 none_behind [] ys one x all stands = absurd (none_stands x stands)
 none_behind (y ∷ []) ys one x all stands = let behind : ys ≡ [] = cc all in behind
@@ -92,7 +92,7 @@ module _ (range : Range) (marks : List Mark) (sides : List (List Held)) (from ap
   numbers_to : (n : ℕ) → Contains closing.segments n → Contains (flat_map (named_by range) kept) n
   numbers_to n stands = search (to_flat, named_by, closing_kept, cond-true, meets, closes)
 
-  -- no Joined of the range stands behind what is applied
+  -- no Joined of the range is behind what is applied
   pub none_behind_applied : joined_from range (max from applied) list ≡ []
   none_behind_applied =
       let low : from ≤ place = has.behind in

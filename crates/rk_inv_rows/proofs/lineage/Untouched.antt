@@ -7,14 +7,14 @@ use Rattle.rk_inv_base.proofs.Words.{applied_entries, member_rest, member_truth,
 use Rattle.rk_inv_rows.proofs.Words.{Misses, all_names_none, counting_none, drop_missed, material_none, unmarked_missed}
 use Rattle.rk_inv_rows.proofs.lineage.Among.{first_all, later_all}
 
--- where none passes a test, each does not
+-- if none passes a test, each fails it
 pub each_misses : (range : Range) (list : List Entry) → list_any (touches range) list ≡ false → All (Misses range) list
 each_misses range [] none = All-nil (Misses range)
 each_misses range (entry ∷ list) none =
     let parts = or_parts (touches range entry) (list_any (touches range) list) none in
     All-cons (Misses range) entry list parts.0 (each_misses range list parts.1)
 
--- ---- more that misses a range tells nothing more of it
+-- ---- more that misses a range says nothing more about it
 
 -- these entries with more behind them that misses a range
 pub record HasMissed (range : Range) (short long : List Entry) : Type 0 where

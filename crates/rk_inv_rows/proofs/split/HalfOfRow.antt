@@ -145,7 +145,7 @@ newest_kept range table key found [] inside = refl
 newest_kept range table key found (item ∷ items) inside =
     grind (arith, in_by_key, newest_from-same, (newest_kept range table key (with_newer found item) items inside))
 
--- items of which two are equal where they are of one key and version
+-- items of which two are equal if they are of one key and version
 pub plain_kept : (p : Held → Bool) (items : List Held) → IsPlain items → IsPlain (filter p items)
 plain_kept p items plain a b first second = plain a b (kept_stands p items a first).0 (kept_stands p items b second).0
 
@@ -211,7 +211,7 @@ module _ (asked : ℕ → Option LastCall) (journal : List Placed) (range : Rang
   abbrev MadeOf : List Ended → List Placed
   MadeOf ends = records_at table key (records_of asked ends)
 
-  -- an entry that counts where its key is in the range, and tells the end of the last call of a client alone
+  -- an entry that counts if its key is in the range, and records the end of the last call of a client alone
   record IsTold (entry : Entry) : Type 0 where
     end : Ended
     seq : ℕ
@@ -221,7 +221,7 @@ module _ (asked : ℕ → Option LastCall) (journal : List Placed) (range : Rang
     counted : counts range entry ≡ has_key range its_table its_key
     ends : call_end entry ≡ end ∷ []
 
-  -- what is staged tells no end or one
+  -- what is staged records no end or one
   told_cases : (base : Base) (entry : Entry) → IsStaged base asked journal entry → (call_end entry ≡ []) ⊎ IsTold entry
   told_cases base entry staged = grind (arith, item_end, refusal_end)
 
@@ -332,7 +332,7 @@ module _ (whole half : Range) (is : IsHalf whole half) where
         live_half whole half is truth table key inside ∙ was.live table key (in_whole whole half is table (hash_of key) inside);
   }
 
-  -- what tells each mutation of the whole tells each of the half
+  -- what records each mutation of the whole records each of the half
   pub tells_half : (journal : List Placed) (list : List Entry) → All (λ entry. counts whole entry ≡ true) list → TellAll whole journal list → TellAll half journal (counting half list)
   tells_half journal list all tells k d within inside mutation =
       let call : Call = (slice_index_or journal k d).call in
@@ -388,7 +388,7 @@ module _ (whole half : Range) (is : IsHalf whole half) where
       one = pairs_kept (λ a b. a.client ≢ b.client) half rest was.one;
     }
 
--- what all entries tell, those that count tell of it
+-- what holds of all ends that entries record holds of those that the counting ones record
 told_kept : (P : Ended → Type 0) (range : Range) (list : List Entry) → All P (told list) → All P (told (counting range list))
 told_kept P range [] all = all
 told_kept P range (entry ∷ list) all =

@@ -356,7 +356,7 @@ module _ (v : View) (cut : Splitting v) (after : Halved v cut) where
   by_high : ByHalf new (high v cut).range
   by_high P q here others = by_post v cut after P q new (inr refl) (λ _ its. absurd (new_apart v cut its)) (λ serves _. here serves) others
 
-  -- what one that is not the owner has of a half
+  -- what a master that is not the owner has of a half
   abbrev FitsAway : ℕ → Type 0
   FitsAway n =
       (q : ℕ) → v.live q ≡ true → eqb owner q ≡ false
@@ -374,7 +374,7 @@ module _ (v : View) (cut : Splitting v) (after : Halved v cut) where
     abbrev half : Row
     half = record { tablet = n; range = r; term = term + 1; phase = Owned owner from }
 
-    -- one that is not the owner does not speak for it
+    -- a master that is not the owner does not speak for it
     silent : (q : ℕ) → v.live q ≡ true → eqb owner q ≡ false → speaks Bystander (v.handovers q n) (term + 1) ≡ false
     silent q lives away =
         (bystander_quiet (v.handovers q n).role (term + 1) (v.handovers q n).term (v.written q).applied (away_fits q lives away)).0

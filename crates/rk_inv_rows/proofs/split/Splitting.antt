@@ -27,7 +27,7 @@ pub record Splitting (v : View) : Type 0 where
   pub free : is_some (row_of v.rows new) ≡ false
   pub splits : is_split range at ≡ true
 
--- what is the one row or something else is the latter where it has another number
+-- what is the one row or something else is the latter if it has another number
 unless_same : {P : Type 0} (x y : Row) → (x.tablet ≡ y.tablet → ⊥) → (x ≡ y) ⊎ P → P
 unless_same {P} x y apart = ⊎_elim (λ (same : x ≡ y). absurd (apart (ap (λ (r : Row). r.tablet) same))) (λ (there : P). there)
 
@@ -111,7 +111,7 @@ module _ (v : View) (cut : Splitting v) where
       unless_same low second (λ same. new_apart (sym same))
       (stands_still risen new second high low upper_found (new_stands divided tablet first low lower_found))
 
-  -- each other row stands
+  -- each other row is still there
   pub other_stands : (x : Row) → Contains v.rows x → (x.tablet ≡ tablet → ⊥) → Contains rows' x
   other_stands x there unlike =
       let one : Contains shrunk x = unless_same x row unlike (stands_still v.rows tablet row first x found there) in
@@ -119,7 +119,7 @@ module _ (v : View) (cut : Splitting v) where
       unless_same x first unlike (stands_still divided tablet first low x lower_found (stands_placed second x shrunk one)) in
       unless_same x second (none_new x there) (stands_still risen new second high x upper_found two)
 
-  -- what stands is a half, or stood before
+  -- what is there is a half, or was there before
   stood_before : (x : Row) → Contains rows' x → (x.tablet ≡ tablet → ⊥) → (x.tablet ≡ new → ⊥) → Contains v.rows x
   stood_before x there unlike other =
       let one : Contains risen x = unless_same x high other (stood risen new high x there) in
@@ -178,7 +178,7 @@ module _ (v : View) (cut : Splitting v) where
   pub high_half : IsHalf range high.range
   high_half = record { table = refl; first = omega (arith, within.0); last = omega arith; some = within.1 }
 
-  -- the halves stand beside each other and beside the other rows
+  -- the halves meet neither each other nor the other rows
   pub low_apart : meets low.range high.range ≡ false
   low_apart = go range.table range.first range.last at within.0
     where
@@ -275,7 +275,7 @@ module _ (v : View) (cut : Splitting v) where
   abbrev pub Counts : ℕ → Handover → Type 0
   Counts q h = StillCounts (v.live q) h.term (term + 1)
 
-  -- one that has what it had is no owner
+  -- a master that has what it had is no owner
   pub not_owner : (q n : ℕ) → Beside q n → v.live q ≡ true → IsOfHalves n → eqb owner q ≡ false
   not_owner q n unlike lives its = grind (arith, ne_eqb)
 

@@ -20,7 +20,7 @@ then_said : (cluster : Cluster) (occurrence : Occurrence) (later : List Occurren
 then_said cluster occurrence later worn rest =
     grind (arith, acted, all_acted, said_along, came_is, said_joins, step, lane_at, ask, session_at, accept, said_in, append-nil)
 
--- what clients said where occurrences were to come is what they said along those that came
+-- what clients said when occurrences were to come is what they said along those that came
 pub came_said : (cluster : Cluster) (occurrences : List Occurrence)
     → (all_acted cluster occurrences).said ≡ said_along cluster (all_acted cluster occurrences).came
 came_said cluster [] = refl

@@ -36,7 +36,7 @@ pub record HasWritten (command : Command) (start : Cluster) (it : Effect) : Type
   pub said : piece_said piece ≡ said_along start it.occurred
   pub of : IsPieceOf command start it.occurred piece
 
--- one that has not stopped has written a piece; at one that is refused nothing occurred
+-- a command that has not stopped has written a piece; at a command that is refused nothing occurred
 pub record IsWriting (command : Command) (start : Cluster) (it : Effect) : Type 0 where
   pub written : it.stop ≡ None → HasWritten command start it
   pub refused : (code : ℕ) → it.stop ≡ Some (Refuses code) → it.occurred ≡ []
@@ -50,12 +50,12 @@ module _ (cluster : Cluster) where
   as_said occurred said is = ap Says is
 
   module _ (command : Command) where
-    -- one that writes a piece
+    -- a command that writes a piece
     writes : (text : List ℕ) (next : Cluster) (occurred : List Occurrence) → HasWritten command cluster (writing text next occurred)
         → IsWriting command cluster (writing text next occurred)
     writes text next occurred has = record { written = λ none. has; refused = λ code is. absurd (none-some (Refuses code) is) }
 
-    -- one that stops, and not for a code
+    -- a command that stops, and not for a code
     stops : (stop : Stop) (next : Cluster) (occurred : List Occurrence) → ((code : ℕ) → stop ≡ Refuses code → ⊥)
         → IsWriting command cluster (ending_at stop next occurred)
     stops stop next occurred other = record {
@@ -63,7 +63,7 @@ module _ (cluster : Cluster) where
       refused = λ code is. absurd (other code (cc is));
     }
 
-    -- one that stops for a code
+    -- a command that stops for a code
     refuses : (code : Code) → IsWriting command cluster (refused_by code cluster)
     refuses code = record { written = λ none. absurd (none-some (Refuses (number_of code)) (sym none)); refused = λ number is. refl }
 
@@ -119,7 +119,7 @@ module _ (cluster : Cluster) where
   effect_writes command fates = effect_by cluster fates (IsWriting command cluster) (refuses command) (carried_writes command as_said)
       (λ code tasks. settled_writes command as_said code (course_of cluster tasks) fates refl refl) command (λ shows. absurd shows)
 
--- each command, also where the cluster is full
+-- each command, also if the cluster is full
 pub within_writes : (cluster : Cluster) (command : Command) (fates : List Fate)
     → IsWriting command cluster (effect_within cluster command fates)
 within_writes cluster command fates =

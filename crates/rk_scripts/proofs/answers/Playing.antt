@@ -36,12 +36,12 @@ record IsSpoken (left : List Numbered) (start : Cluster) (it : Played) : Type 0 
 is_last : (line code : ℕ) → IsLast (Refusal line code) []
 is_last line code = record { line = line; code = code; is = refl; none_behind = refl }
 
--- a run that ends without a word, where nothing occurred
+-- a run that ends without a word, and in which nothing occurred
 ended_speaks : (left : List Numbered) (status : Status) (cluster : Cluster) → IsSpoken left cluster (ending status cluster)
 ended_speaks left status cluster =
     record { from = refl; pieces = []; text = refl; silent = []; said = refl; all = λ well. refl; in_order = tt }
 
--- one that is refused there
+-- a run that is refused there
 refused_speaks : (left : List Numbered) (line code : ℕ) (cluster : Cluster) → IsSpoken left cluster (refused_at line code cluster)
 refused_speaks left line code cluster = record {
   from = refl;
@@ -53,7 +53,7 @@ refused_speaks left line code cluster = record {
   in_order = inl (is_last line code);
 }
 
--- one that goes on behind a command that has written
+-- a run that goes on behind a command that has written
 behind_speaks : (first : Numbered) (others : List Numbered) (start : Cluster) (it : Effect) (later : Played) → it.cluster ≡ cluster_run start it.occurred
     → HasWritten first.command start it → IsSpoken others it.cluster later → IsSpoken (first ∷ others) start (behind (it.text ∷ []) it.occurred later)
 behind_speaks first others start it later from written spoken = record {
@@ -71,7 +71,7 @@ behind_speaks first others start it later from written spoken = record {
   in_order = grind (arith, it.occurred, later.occurred, written.of, spoken.pieces, spoken.in_order);
 }
 
--- one that ends at a command with nothing written; what clients said at it is silent
+-- a run that ends at a command with nothing written; what clients said at it is silent
 silent_speaks : (left : List Numbered) (start : Cluster) (it : Effect) (status : Status) → it.cluster ≡ cluster_run start it.occurred
     → ((status ≡ Done) ⊎ (status ≡ Refused) → ⊥) → IsSpoken left start (behind [] it.occurred (ending status it.cluster))
 silent_speaks left start it status from stops = grind (arith, cluster_run, append-nil, said_along)

@@ -12,7 +12,7 @@ use Rattle.rk_scripts.proofs.answers.Telling.{IsOwn, Tells, accepting_tells, ask
 abbrev AreOwn : Cluster → Type 0
 AreOwn cluster = (client : ℕ) → IsOwn client (session_at cluster client)
 
--- a cluster after something was said: each session is still its client's own, and what was said tells the new receipts
+-- a cluster after something was said: each session is still its client's own, and what was said reports the new receipts
 record Hears (before after : Cluster) (said : List Said) : Type 0 where
   own : AreOwn after
   told : (client : ℕ) → told_to after client ≡ told_to before client ++ replies_to client said
@@ -49,7 +49,7 @@ module _ (before now : Cluster) (client : ℕ) (after : Session) (said : List Sa
         (cases_eq other client);
   }
 
--- whatever occurs, what was said of it tells the new receipts
+-- whatever occurs, what was said of it reports the new receipts
 hears_one : (cluster : Cluster) (occurrence : Occurrence) → AreOwn cluster
     → Hears cluster (cluster_after cluster occurrence) (acted cluster occurrence).said
 hears_one cluster (Happens lane event called) own = go (step (lane_at cluster lane) event called)
@@ -101,7 +101,7 @@ hears_one cluster (Accepts lane number client) own =
         (accepting_tells (lane_at cluster lane) client session (own client) found)
     go (Some error) = hears_nothing cluster cluster own refl
 
--- along occurrences, what was said tells the new receipts
+-- along occurrences, what was said reports the new receipts
 hears_all : (start : Cluster) (occurred : List Occurrence) (client : ℕ) → AreOwn start
     → told_to (cluster_run start occurred) client ≡ told_to start client ++ replies_to client (said_along start occurred)
 hears_all start [] client own = sym (append-nil (told_to start client))
@@ -114,7 +114,7 @@ hears_all start (occurrence ∷ later) client own =
     ∙ append_assoc (told_to start client) (replies_to client said) (replies_to client (said_along next later))
     ∙ ap (λ (more : List Said). told_to start client ++ more) (sym (filter-append (is_reply_to client) said (said_along next later)))
 
--- what clients said in a run of a new cluster tells their receipts, client by client and in their order
+-- what clients said in a run of a new cluster reports their receipts, client by client and in their order
 pub receipts_said : (masters backups : ℕ) (occurred : List Occurrence) (client : ℕ)
     → told_to (cluster_run (new_cluster masters backups) occurred) client
     ≡ replies_to client (said_along (new_cluster masters backups) occurred)

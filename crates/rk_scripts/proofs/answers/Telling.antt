@@ -20,7 +20,7 @@ pub record IsOwn (client : ℕ) (session : Session) : Type 0 where
   pub client_is : session.client ≡ client
   pub call_is : IfSome session.outstanding (λ call. call.client ≡ client)
 
--- a client's own session after something was said: its new receipts are told by that, and no other client is told anything
+-- a client's own session after something was said: that reports its new receipts, and no other client is told anything
 pub record Tells (client : ℕ) (before after : Session) (said : List Said) : Type 0 where
   pub own : IsOwn client after
   pub told : map told_by after.receipts ≡ map told_by before.receipts ++ replies_to client said
@@ -32,7 +32,7 @@ record Keeps (before after : Session) : Type 0 where
   receipts_are : after.receipts ≡ before.receipts
   call_is : after.outstanding ≡ before.outstanding
 
--- where a session keeps them and nothing that is said is a reply, nothing is told
+-- if a session keeps them and nothing that is said is a reply, nothing is reported
 tells_none : (client : ℕ) (before after : Session) (said : List Said) → IsOwn client before → Keeps before after
     → ((other : ℕ) → replies_to other said ≡ []) → Tells client before after said
 tells_none client before after said own keeps none = record {
@@ -48,7 +48,7 @@ tells_none client before after said own keeps none = record {
 keeps_all : (session : Session) → Keeps session session
 keeps_all session = record { client_is = refl; receipts_are = refl; call_is = refl }
 
--- so it is where the session does not change at all
+-- so it is if the session does not change at all
 quiet_tells : (client : ℕ) (session : Session) (said : List Said) → IsOwn client session → ((other : ℕ) → replies_to other said ≡ [])
     → Tells client session session said
 quiet_tells client session said own none = tells_none client session session said own (keeps_all session) none
@@ -81,7 +81,7 @@ module _ (w : World) (session : Session) where
 
 -- ---- answers
 
--- the last of receipts is the one that was put behind them
+-- the last of receipts is the receipt that was put behind them
 last_put : (receipts : List Receipt) (receipt : Receipt) → last_receipt (receipts ++ receipt ∷ []) ≡ Some receipt
 last_put receipts receipt =
     let one_more : length (receipts ++ receipt ∷ []) ≡ length receipts + 1 = length-append receipts (receipt ∷ []) in
@@ -95,7 +95,7 @@ module _ (client : ℕ) (session : Session) (call : Call) (own : IsOwn client se
   abbrev Said-of : Accepted → List Said
   Said-of accepted = said_of call accepted.session.receipts accepted.taken
 
-  -- the reply that tells a receipt, as another client hears it
+  -- the reply that reports a receipt, as another client hears it
   heard : (other : ℕ) (receipt : Receipt) (b : Bool) → eqb call.client other ≡ b
       → replies_to other (Said.Reply call.client receipt.call.seq receipt.outcome ∷ [])
       ≡ cond b (Said.Reply call.client receipt.call.seq receipt.outcome ∷ []) []

@@ -10,7 +10,7 @@ use Rattle.rk_settle.proofs.Occurred.{AreToldFrom, IsToldAt, all_come, delivered
 use Rattle.rk_scripts.proofs.play.Answering.{told_comes}
 use Rattle.rk_scripts.proofs.play.Reaching.{GoesOn, IsReached, MayBe, all_on, lane_good, lane_there, none_on, one_on}
 
--- one that may occur at any time, and calls no replica
+-- an occurrence that may come at any time, and calls no replica
 abbrev pub IsFree : ℕ → Occurrence → Type 0
 IsFree masters occurrence = IsAllowed masters occurrence × ((cluster : Cluster) → IsToldAt cluster occurrence)
 
@@ -55,7 +55,7 @@ module _ (masters backups : ℕ) where
   }
   allowed_may cluster (Accepts lane number client) allowed told reached = search lane_there
 
-  -- occurrences of this kind go on with a run, where replicas answer what they store
+  -- occurrences of this kind go on with a run, if replicas answer what they store
   pub allowed_on : (cluster : Cluster) (list : List Occurrence) → All (IsAllowed masters) list → AreToldFrom cluster list → GoesOn masters backups cluster list
   allowed_on cluster [] allowed told = none_on masters backups cluster
   allowed_on cluster (occurrence ∷ later) allowed told = one_on masters backups cluster occurrence later
@@ -65,7 +65,7 @@ module _ (masters backups : ℕ) where
   first_on : (cluster : Cluster) (occurrence : Occurrence) → (IsReached masters backups cluster → MayBe masters backups cluster occurrence) → GoesOn masters backups cluster (acted cluster occurrence).came
   first_on cluster occurrence may = grind (arith, step, lane_at, ask, session_at, accept, one_on, none_on, cluster_after)
 
-  -- those go on with a run that come of one that may occur, and of those behind it
+  -- those go on with a run that come of an occurrence that may come, and of those behind it
   pub came_first : (cluster : Cluster) (occurrence : Occurrence) (later : List Occurrence) → (IsReached masters backups cluster → MayBe masters backups cluster occurrence)
       → GoesOn masters backups (acted cluster occurrence).cluster (all_acted (acted cluster occurrence).cluster later).came
       → GoesOn masters backups cluster (all_acted cluster (occurrence ∷ later)).came

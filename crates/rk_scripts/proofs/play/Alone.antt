@@ -15,7 +15,7 @@ never_lost : (fates : List Fate) (before now : Counts) → GoOn fates before now
 never_lost fates before now on none lane place =
     stayed (times_lost lane place fates) (before lane place) (now lane place) (on lane place) (none.same lane place) (none.below lane place)
 
--- the first of some fates is no loss, where there is none among them
+-- the first of some fates is no loss, if there is none among them
 lost_first : (lane place left : ℕ) (fates : List Fate) → times_lost lane place (Lost lane place left ∷ fates) ≡ 0 → ⊥
 lost_first lane place left fates none = grind (arith, is_of_it)
 

@@ -21,7 +21,7 @@ use Rattle.rk_inv_lanes.proofs.Below.{added_front}
 
 -- ---- what a replica stores of a segment
 
--- each segment of a log that can be told has no more bytes than one may have
+-- each segment of a log that can be reported has no more bytes than a segment may have
 segment_few : (log : Log) (number : ℕ) → All CanBeTold (segments log) → length (bytes_of log number) ≤ SEGMENT_BYTES
 segment_few log number each = go (segment_of number (segments log)) refl
   where
@@ -96,6 +96,6 @@ module _ (w : World) (sound : IsSound w) (formed : IsWellFormed w) (room : HasRo
   called_comes message backup (Node.Master master) _ fault from_is body_is to_is number found = tt
   called_comes message backup _ body fault from_is body_is to_is number found = tt
 
-  -- what a replica that tells what it stores answers may come
+  -- what a replica that reports what it stores answers may come
   pub told_comes : (event : Event) (called : Called) → IsTold w event called → MayCome called
   told_comes event called answer = grind (arith, called_comes, answer.told, answer.fault)

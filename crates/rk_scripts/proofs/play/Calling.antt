@@ -18,7 +18,7 @@ use Rattle.rk_scripts.proofs.play.Allowed.{came_first}
 use Rattle.rk_scripts.proofs.play.Reaching.{GoesOn, IsReached, none_on, reached_good}
 use Rattle.rk_scripts.proofs.play.Tests.{passes}
 
--- an operation is lawful where its value and its version are
+-- an operation is lawful if its value and its version are
 lawful_op : (operation : Op) → HasLawfulValue operation → HasVersion operation → IsLawfulOp operation
 lawful_op operation value version = grind arith
 
@@ -38,7 +38,7 @@ module _ (cluster : Cluster) where
   pub few_asked : (client : ℕ) → calls_of (session_at cluster client) ≤ calls_asked cluster
   few_asked client = asked_by client (get cluster.sessions client) refl
 
--- nothing waits where no call is outstanding
+-- nothing waits if no call is outstanding
 none_waits : (out : Option Call) → is_some out ≡ false → waiting out ≡ 0
 none_waits None idle = refl
 none_waits (Some call) idle = absurd (cc idle)

@@ -42,7 +42,7 @@ module _ (masters backups : ℕ) (cluster : Cluster) (reached : IsReached master
 
   -- ---- tables, clients and tablets
 
-  -- the number of the next tablet, where there are not as many as there may be
+  -- the number of the next tablet, if there are not as many as there may be
   next_is : length (rows_of cluster) < MOST_TABLETS → IsNumber w32 1 (next_tablet cluster)
   next_is few = record { least_is = omega arith; fits = omega (arith, few) }
 

@@ -12,7 +12,7 @@ use Rattle.rk_cluster.specs.Makes as makes
 
 -- ---- moves that are left
 
--- a course stands still
+-- a move leaves a course as it is
 abbrev Stands : Course → Type 0
 Stands course = moved course Kept ≡ course
 
@@ -23,7 +23,7 @@ IsOver it = it.stop ≡ Some Pauses → ⊥
 over_by : {T : Type 0} (course : Course) (left : List T) → (left ≡ [] → Stands course) → IsOver (settled_by course left) → Stands course
 over_by course left none over = grind (arith, error_of, stands_still)
 
--- where no task is left, too
+-- also if no task is left
 none_left : (course : Course) → course.tasks ≡ [] → Stands course
 none_left course is = ap (moved_by course Kept) is
 

@@ -25,7 +25,7 @@ module _ (masters backups : ℕ) (cluster : Cluster) where
 
   -- ---- kinds of commands
 
-  -- one that makes events, unless a code refuses it
+  -- a command that makes events, unless a code refuses it
   carried_on : (code : Option Code) (list : List Occurrence) → (code ≡ None → GoesOn masters backups cluster (all_acted cluster list).came) → EffectGoesOn (carried cluster code list)
   carried_on code list on = grind (arith, none_on, all_acted)
 
@@ -38,7 +38,7 @@ module _ (masters backups : ℕ) (cluster : Cluster) where
   settled_by_on course [] on = on
   settled_by_on course (task ∷ left) on = on
 
-  -- one that settles, with a course that begins here
+  -- a command that settles, with a course that begins here
   settled_on : (code : Option Code) (course : Course) (fates : List Fate) → ((reached : IsReached masters backups cluster) → IsCoursing masters backups cluster reached course)
       → EffectGoesOn (settled cluster code (moved_all course fates))
   settled_on (Some code) course fates begins = none_on masters backups cluster
@@ -50,7 +50,7 @@ module _ (masters backups : ℕ) (cluster : Cluster) where
   deliver_on lane inside fate None = none_on masters backups cluster
   deliver_on lane inside fate (Some number) = delivered_on masters backups cluster lane number fate inside
 
-  -- one that shows something
+  -- a command that shows something
   shown_on : (code : Option Code) (text : List ℕ) → EffectGoesOn (shown cluster code text)
   shown_on (Some code) text = none_on masters backups cluster
   shown_on None text = none_on masters backups cluster
@@ -83,7 +83,7 @@ module _ (masters backups : ℕ) (cluster : Cluster) where
   effect_on (Command.Dump tablet) fates lawful widths = shown_on (dump_code cluster tablet) (dump_text cluster tablet)
   effect_on _ fates lawful widths = none_on masters backups cluster
 
-  -- also where the cluster is full
+  -- also if the cluster is full
   pub within_on : (command : Command) (fates : List Fate) → IsLawfulCommand command → HasWidths command → EffectGoesOn (effect_within cluster command fates)
   within_on command fates lawful widths =
       within_by cluster fates EffectGoesOn (λ code. none_on masters backups cluster) command (effect_on command fates lawful widths)

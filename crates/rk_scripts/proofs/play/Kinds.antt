@@ -17,7 +17,7 @@ IsShowing command = ⊥
 
 -- something of what is made
 module _ (cluster : Cluster) (fates : List Fate) (P : Effect → Type 0) (refuses : (code : Code) → P (refused_by code cluster)) where
-  -- also where the cluster is full
+  -- also if the cluster is full
   pub within_by : (command : Command) → P (effect cluster command fates) → P (effect_within cluster command fates)
   within_by command is =
       elim (is_full cluster) as (λ b. P (if b then refused_by Limit cluster else effect cluster command fates)) [
@@ -51,6 +51,6 @@ module _ (cluster : Cluster) (fates : List Fate) (P : Effect → Type 0) (refuse
     effect_by Command.History shows = shows tt None (history_text cluster)
     effect_by command shows = refuses TooLate
 
-    -- each command, also where the cluster is full
+    -- each command, also if the cluster is full
     pub command_by : ((code : Option Code) (text : List ℕ) → P (shown cluster code text)) → (command : Command) → P (effect_within cluster command fates)
     command_by shows command = within_by command (effect_by command (λ some. shows))

@@ -11,20 +11,20 @@ abbrev pub IsEffectFrom : Cluster → Effect → Type 0
 IsEffectFrom start it = it.cluster ≡ cluster_run start it.occurred
 
 module _ (cluster : Cluster) where
-  -- one that makes events
+  -- a command that makes events
   carried_from : (code : Option Code) (occurrences : List Occurrence) → IsEffectFrom cluster (carried cluster code occurrences)
   carried_from code occurrences = grind (arith, all_acted, acted_all_is)
 
-  -- one that settles, with a course that begins here
+  -- a command that settles, with a course that begins here
   settled_from : (code : Option Code) (course : Course) (fates : List Fate) → IsCourseFrom cluster course → IsEffectFrom cluster (settled cluster code (moved_all course fates))
   settled_from code course fates from = grind (arith, moved_all, all_moved_from)
 
-  -- one that shows something
+  -- a command that shows something
   shown_from : (code : Option Code) (text : List ℕ) → IsEffectFrom cluster (shown cluster code text)
   shown_from (Some code) text = refl
   shown_from None text = refl
 
-  -- each command, also where the cluster is full
+  -- each command, also if the cluster is full
   pub within_from : (command : Command) (fates : List Fate) → IsEffectFrom cluster (effect_within cluster command fates)
   within_from command fates = command_by cluster fates (IsEffectFrom cluster) (λ code. refl) carried_from
       (λ code tasks. settled_from code (course_of cluster tasks) fates refl) shown_from command

@@ -39,7 +39,7 @@ module _ (masters backups : ℕ) (cluster : Cluster) (reached : IsReached master
         (All-filter (λ entry. not (has_crashed w entry.0)) (λ (entry : ℕ × Master). IsMaster masters entry.0) w.masters
         (all_before (IsMaster masters) (λ (entry : ℕ × Master). entry.0) w.masters all))
 
-    -- one that has crashed and was not noticed, if there is one
+    -- a master that has crashed and was not noticed, if there is one
     unnoticed_there : IfSome (unnoticed (lane_at cluster lane)) (IsMaster masters)
     unnoticed_there =
         subst (λ (count : ℕ). IfSome (find (is_unnoticed (lane_at cluster lane)) (range_with_len 1 count)) (IsMaster masters)) (sym good.masters_are)

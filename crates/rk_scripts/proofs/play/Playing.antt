@@ -76,7 +76,7 @@ pub record IsPlay (masters backups : ℕ) (start : Cluster) (it : Played) : Type
   pub on : GoesOn masters backups start it.occurred
 
 module _ (masters backups : ℕ) where
-  -- so it is where something occurred before
+  -- so it is if something occurred before
   behind_play : (start : Cluster) (pieces : List (List ℕ)) (occurred : List Occurrence) (next : Cluster) (later : Played) → next ≡ cluster_run start occurred
       → GoesOn masters backups start occurred → IsPlay masters backups next later → IsPlay masters backups start (behind pieces occurred later)
   behind_play start pieces occurred next later from on it = grind (arith, cluster_run, runs_join, all_on)
@@ -116,7 +116,7 @@ pub record IsPlayedAnew (it : Played) : Type 0 where
 anew_by : (setting : Setting) (it : Played) → IsSetting setting → IsPlay (how_many setting.masters) (how_many setting.backups) (cluster_by setting) it → IsPlayedAnew it
 anew_by setting it may plays = grind (arith, how_many, new_reached)
 
--- so is one that ends before any command
+-- so is a run that ends before any command
 ended_anew : (setting : Setting) (it : Played) → IsSetting setting → it.cluster ≡ cluster_by setting → it.occurred ≡ [] → IsPlayedAnew it
 ended_anew setting it may is none =
     let masters : ℕ = how_many setting.masters in

@@ -23,7 +23,7 @@ module _ (masters backups : ℕ) where
       record { few_masters = few; backed = backed; few_backups = few_backups; before = []; run = tt; is = refl }
 
   module _ (cluster : Cluster) (reached : IsReached masters backups cluster) where
-    -- so is one that a run of this one comes to
+    -- so is a cluster that a run of this one comes to
     pub reached_after : (list : List Occurrence) → IsRun cluster list → IsReached masters backups (cluster_run cluster list)
     reached_after list run =
         let start : Cluster = new_cluster masters backups in
@@ -70,7 +70,7 @@ module _ (masters backups : ℕ) where
   pub none_on : (cluster : Cluster) → GoesOn cluster []
   none_on cluster reached = tt
 
-  -- one that may occur, and those behind it
+  -- an occurrence that may come, and those behind it
   pub one_on : (cluster : Cluster) (occurrence : Occurrence) (later : List Occurrence) → (IsReached masters backups cluster → MayBe cluster occurrence)
       → GoesOn (cluster_after cluster occurrence) later → GoesOn cluster (occurrence ∷ later)
   one_on cluster occurrence later may rest reached =

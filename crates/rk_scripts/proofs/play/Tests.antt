@@ -4,12 +4,12 @@ use Rattle.rk_scripts.proofs.Words.{option_or, and_parts, not-false, Cluster, Is
 use Rattle.rk_cluster.specs.Looks.{master_count}
 use Rattle.rk_scripts.proofs.play.Reaching.{IsReached, lane_good}
 
--- where no code applies neither this one does nor those behind it
+-- if no code applies, neither does this one nor those behind it
 pub passes : (b : Bool) (code : Code) (others : Option Code) → option_or (code_where b code) others ≡ None → (b ≡ false) × (others ≡ None)
 passes true code others none = absurd (cc none)
 passes false code others none = (refl, none)
 
--- a master is there, where it is not unknown
+-- a master is there if it is not unknown
 pub master_there : (masters backups : ℕ) (cluster : Cluster) (master : ℕ) → IsReached masters backups cluster → not (is_master cluster master) ≡ false → IsMaster masters master
 master_there masters backups cluster master reached known =
     let parts = and_parts (nat_le 1 master) (nat_le master (master_count cluster)) (not-false (is_master cluster master) known) in

@@ -91,7 +91,7 @@ module _ (n : ℕ) (all : AllOwn n) where
   sorting : (lane : ℕ) (topic : Topic) (from last : ℕ) → Later (sorts lane topic from last)
   sorting lane topic from last course fate rest own = opens course rest own (Sorting (lane_at course.cluster lane).wire lane topic from last)
 
-  -- also where the topic has no name
+  -- also if the topic has no name
   sorting_as : (lane : ℕ) (topic : Topic) (from last : ℕ) (task : Task) → sorts lane topic from last ≡ task → Later task
   sorting_as lane topic from last task is = subst Later is (sorting lane topic from last)
 

@@ -26,11 +26,11 @@ neither : (a b : Bool) → (a || b) ≡ false → (a ≡ false) × (b ≡ false)
 neither false b is = (refl, is)
 neither true b is = absurd (true≢false is)
 
--- where no party of a row's migration is dead
+-- if no party of a row's migration is dead
 party_lives : (tablet : ℕ) (w : World) (found : Option Row) → row_of w.coordinator.rows tablet ≡ found → is_dead_migration w found ≡ false → First tablet w
 party_lives tablet w found is alive = grind (arith, migrates_by, migrates, neither, has_crashed)
 
--- where no code applies, the last one does not
+-- if no code applies, the last one does not
 last_none : (a b c : Option Code) → first_code (a ∷ b ∷ c ∷ []) ≡ None → c ≡ None
 last_none a b c none = grind (arith, none-some)
 
@@ -43,7 +43,7 @@ any_none : (test : ℕ → Bool) (list : List ℕ) (n : ℕ) → list_any test l
 any_none test list n none there = none_pass test list none n (stands_in list n there)
 
 module _ (cluster : Cluster) (tablet : ℕ) (reach : Reach) (eight : length cluster.lanes ≡ LANES) (allowed : advance_code cluster tablet reach ≡ None) where
-  -- in each lane where the migration is short of the reach, its parties live
+  -- in each lane in which the migration is short of the reach, its parties live
   pub first_at : (lane : ℕ) → lane < LANES → is_short_of (lane_at cluster lane) tablet reach ≡ true → First tablet (lane_at cluster lane)
   first_at lane inside short =
       let lanes : List ℕ = short_lanes cluster tablet reach in

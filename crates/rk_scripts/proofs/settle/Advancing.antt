@@ -25,7 +25,7 @@ module _ (s : Setting) (lane : ℕ) (inside : lane < LANES) (origin : Cluster) (
   abbrev its : Course → World
   its course = lane_at course.cluster lane
 
-  -- a step of a migration: where this holds of its lane it comes to where that does
+  -- a step of a migration: if this holds of its lane, it comes to where that does
   abbrev Step : Reach → (World → Type 0) → (World → Type 0) → Type 0
   Step reach P Q =
       (before : Cluster) (course : Course) → Comes s before course → course.tasks ≡ reaches lane tablet reach ∷ rest → IsSameBeside lane origin course.cluster
@@ -108,7 +108,7 @@ module _ (s : Setting) (lane : ℕ) (inside : lane < LANES) (origin : Cluster) (
       some)
       frozen
 
-  -- and where the tablet moves, and its target has it in a role that passes this test
+  -- and if the tablet moves, and its target has it in a role that passes this test
   by_target : (reach : Reach) (test : Role → Bool) (before : Cluster) (course : Course) (m : IsMoving tablet (its course))
       → (course.tasks ≡ reaches lane m.row.tablet reach ∷ rest → IsIn m.row.tablet m.row (Moving m.source m.sfrom m.target m.dfrom) m.source m.target (its course) → (tablet_in (its course) m.target m.row.tablet).handover.term ≡ m.row.term → test (tablet_in (its course) m.target m.row.tablet).handover.role ≡ true → Goes s before course (IsLaneNow lane origin rest (AfterPulled m.row.tablet)))
       → course.tasks ≡ reaches lane tablet reach ∷ rest → (tablet_in (its course) m.target tablet).handover.term ≡ m.row.term → test (tablet_in (its course) m.target tablet).handover.role ≡ true → Goes s before course (IsLaneNow lane origin rest (AfterPulled tablet))
@@ -204,7 +204,7 @@ module _ (s : Setting) (lane : ℕ) (inside : lane < LANES) (origin : Cluster) (
       (linked Joined (Finished ∷ []) (AfterPulled tablet) (AfterPulled tablet) (λ w. Unit {0}) (step_joined s lane inside origin tablet)
       (linked Finished [] (AfterPulled tablet) (λ w. Unit {0}) (λ w. Unit {0}) (step_finished s lane inside origin tablet) (ends_so (λ w. Unit {0})))))))
 
-  -- in a lane where the migration, if it is short of the reach, has parties that live
+  -- in a lane in which the migration, if it is short of the reach, has parties that live
   pub advancing : (reach : Reach) (rest : List Task) (before : Cluster) (course : Course) → Comes s before course → course.tasks ≡ advances lane tablet reach ∷ rest
       → IsSameBeside lane origin course.cluster → (is_short_of (lane_at course.cluster lane) tablet reach ≡ true → First tablet (lane_at course.cluster lane))
       → Goes s before course (IsLaneNow lane origin rest (λ w. Unit {0}))

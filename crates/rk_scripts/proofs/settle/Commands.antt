@@ -55,7 +55,7 @@ again_of_own cluster client lane = grind (arith, lane_at, one_of_own)
 
 -- ---- what commands leave
 
--- each client with a session was added in each lane; and where the run goes on, the clients of each lane are those with sessions
+-- each client with a session was added in each lane; and if the run goes on, the clients of each lane are those with sessions
 pub record Leaves (it : Effect) : Type 0 where
   pub added : AreAdded it.cluster
   pub own : it.stop ≡ None → HasOwnClients it.cluster
@@ -63,7 +63,7 @@ pub record Leaves (it : Effect) : Type 0 where
 leaves : (it : Effect) → HasOwnClients it.cluster → Leaves it
 leaves it own = record { added = own_added it.cluster own; own = λ goes. own }
 
--- a client does not join where a lane is worn
+-- a client does not join if a lane is worn
 worn_by_first : (first : Acted) (later : List Occurrence) (worn : Option ℕ) (number : ℕ) → AreAdded first.cluster
     → ((all_acted first.cluster later).worn ≡ Some number → AreAdded (all_acted first.cluster later).cluster)
     → (going_on first worn (λ next. all_acted next later)).worn ≡ Some number → AreAdded (going_on first worn (λ next. all_acted next later)).cluster
@@ -88,12 +88,12 @@ module _ (cluster : Cluster) (own : HasOwnClients cluster) where
   carried_by_own list None after = after
   carried_by_own list (Some number) after = after
 
-  -- one that makes events, of which none adds a client
+  -- a command that makes events, of which none adds a client
   carried_own : (code : Option Code) (list : List Occurrence) → All IsOfOwn list → Leaves (carried cluster code list)
   carried_own (Some code) list of_own = leaves (carried cluster (Some code) list) own
   carried_own None list of_own = search (leaves, carried, carried_by_own, all_acted, own_all)
 
-  -- the one that gives a client a session
+  -- the command that gives a client a session
   joined_by_worn : (client : ℕ) (worn : Option ℕ) → (all_acted cluster (makes.client_makes cluster client)).worn ≡ worn
       → codes.client_code cluster client ≡ None → Leaves (carried_by (all_acted cluster (makes.client_makes cluster client)) worn)
   joined_by_worn client None is none = search (leaves, carried_by, all_acted, client_own)
@@ -104,11 +104,11 @@ module _ (cluster : Cluster) (own : HasOwnClients cluster) where
   joined_own client (Some code) is = leaves (carried cluster (Some code) (makes.client_makes cluster client)) own
   joined_own client None is = joined_by_worn client (all_acted cluster (makes.client_makes cluster client)).worn refl is
 
-  -- one that settles
+  -- a command that settles
   settled_own : (code : Option Code) (course : Course) → HasOwnClients course.cluster → Leaves (settled cluster code course)
   settled_own code course after = grind (arith, leaves, settled)
 
-  -- one that shows something
+  -- a command that shows something
   shown_own : (code : Option Code) (text : List ℕ) → Leaves (shown cluster code text)
   shown_own (Some code) text = leaves (shown cluster (Some code) text) own
   shown_own None text = leaves (shown cluster None text) own
@@ -136,6 +136,6 @@ module _ (cluster : Cluster) (own : HasOwnClients cluster) where
   effect_own (Command.Dump tablet) fates = shown_own (dump_code cluster tablet) (dump_text cluster tablet)
   effect_own command fates = leaves (effect cluster command fates) own
 
-  -- also where the cluster is full
+  -- also if the cluster is full
   pub within_own : (command : Command) (fates : List Fate) → Leaves (effect_within cluster command fates)
   within_own command fates = within_by cluster fates Leaves (λ code. leaves (refused_by code cluster) own) command (effect_own command fates)

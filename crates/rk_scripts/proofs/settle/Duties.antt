@@ -34,7 +34,7 @@ owned_tested w (row ∷ rows) all =
     one (Owned master from) lives = ap not lives
     one _ never = absurd never
 
--- where the coordinator sends nothing each row is owned by a master that lives
+-- if the coordinator sends nothing, each row is owned by a living master
 pub coordinator_quiet : (w : World) (called : Called) → NoDeadOwner w.coordinator → AllNoticed w → worn w ≡ None
     → (world_stepped w (step w (Event.Turn Node.Coordinator) called)).wire ≡ w.wire → has_owners w ≡ true
 coordinator_quiet w called free noticed fresh same = go (has_owners w) refl
@@ -60,7 +60,7 @@ owners_kept w now turned owned = grind (arith, has_owners)
 abbrev pub Waits : World → List ℕ → Type 0
 Waits w coming = (master : ℕ) → has_crashed w master ≡ false → (staged (master_at w master) ≡ []) ⊎ (is_in master coming ≡ true)
 
--- one that is under a number stands among those that live
+-- a living master under a number is among those that live
 lives_in : (w : World) (things : NumberMap Master) (master : ℕ) (thing : Master) → get things master ≡ Some thing → has_crashed w master ≡ false
     → is_in master (numbers (filter (λ (entry : ℕ × Master). not (has_crashed w entry.0)) things)) ≡ true
 lives_in w [] master thing found lives = absurd (cc found)
@@ -92,7 +92,7 @@ waits_first w master lives = grind (arith, staged, new_master, is_in, numbers, l
 pub waits_kept : (w now : World) (coming : List ℕ) → IsTurned w now → Waits w coming → Waits now coming
 waits_kept w now coming turned waits master lives = grind (arith, is_in)
 
--- where a master sends nothing on its turn, nothing is staged there
+-- if a master sends nothing on its turn, nothing is staged there
 pub master_waits : (w : World) (number : ℕ) (coming : List ℕ) (called : Called) → IsWellFormed w → HasRoom w → AllCaughtUp w → worn w ≡ None
     → (world_stepped w (step w (Event.Turn (Node.Master number)) called)).wire ≡ w.wire → Waits w (number ∷ coming)
     → Waits (world_stepped w (step w (Event.Turn (Node.Master number)) called)) coming

@@ -121,7 +121,7 @@ closing_term master number term handover is =
     (subst (λ (t : ℕ). IfSome (frozen handover handover.term) (λ it. it.term ≡ t)) is (frozen_term handover))
     (ap (λ (it : Tablet). it.handover.term) (at_put master number tablet) ∙ is)
 
--- where each passes all do
+-- if each passes, all do
 list_all_from : {X : Type 0} (test : X → Bool) (list : List X) → All (λ x. test x ≡ true) list → list_all test list ≡ true
 list_all_from test [] all = refl
 list_all_from test (x ∷ list) all =
@@ -137,7 +137,7 @@ module _ (masters lane : ℕ) (w : World) (good : IsGoodLane Lasts masters lane 
   abbrev kept_of : ℕ → ℕ → Handover
   kept_of m q = (tablet_in w m q).handover
 
-  -- the tablets of a master stand in order
+  -- the tablets of a master are in order
   tablets_order : (m : ℕ) → IsInOrder (master_at w m).tablets
   tablets_order m = grind (arith, new_master)
 
@@ -164,7 +164,7 @@ module _ (masters lane : ℕ) (w : World) (good : IsGoodLane Lasts masters lane 
   own_number : (m : ℕ) → (master_at w m).number ≡ m
   own_number m = good.sound.nodes.numbered m
 
-  -- one that lives was not noticed dead
+  -- a living master was not noticed dead
   unnoticed : (m : ℕ) → has_crashed w m ≡ false → is_noticed w.coordinator m ≡ false
   unnoticed m living = go (is_noticed w.coordinator m) refl
     where
@@ -172,7 +172,7 @@ module _ (masters lane : ℕ) (w : World) (good : IsGoodLane Lasts masters lane 
       go false is = refl
       go true is = absurd (false≢true (sym living ∙ one_of (λ (k : ℕ). has_crashed w k ≡ true) w.coordinator.noticed m good.formed.noticed is))
 
-  -- what a master that lives tells of the row is of the row
+  -- what a living master reports of the row is of the row
   row_told : (m : ℕ) → has_crashed w m ≡ false → row_for w.coordinator m (row_tenure row) ≡ Some row
   row_told m living = grind (arith, cond-false, is_noticed, row_of, unnoticed, cond-true, eq-eqb)
 
@@ -362,7 +362,7 @@ module _ (masters lane : ℕ) (w : World) (good : IsGoodLane Lasts masters lane 
         by Role.Frozen at it = inr at
         by _ at never = absurd never
 
-    -- ---- a frozen source tells what it hands over
+    -- ---- a frozen source reports what it hands over
 
     module _ (at_term_is : (kept source).term ≡ row.term) (frozen_is : (kept source).role ≡ Role.Frozen) where
       abbrev pub hands_over : Message

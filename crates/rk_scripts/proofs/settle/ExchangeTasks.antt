@@ -141,7 +141,7 @@ close_topic = closing (λ lane tablet source target opening. refl)
 abbrev handing : {f : ℕ → Topic} → ((lane tablet : ℕ) → transfer_tasks lane tablet true ≡ coordinator_exchange lane (f tablet) ∷ []) → ℕ → Topic
 handing {f} same = f
 
--- a source tells what it hands over
+-- a source reports what it hands over
 abbrev pub hand_topic : ℕ → Topic
 hand_topic = handing (λ lane tablet. refl)
 

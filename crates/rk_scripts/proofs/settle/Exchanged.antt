@@ -15,7 +15,7 @@ use Rattle.rk_scripts.proofs.settle.Tasks.{Task, ends}
 use Rattle.rk_scripts.proofs.settle.Walking.{HasTurned, asked, turn_move}
 use Rattle.rk_scripts.proofs.settle.Worn.{sent_below}
 
--- a node that takes its turn in a lane sends something, where the lane is not worn
+-- a node that takes its turn in a lane sends something, if the lane is not worn
 abbrev pub Sends : World → Node → Type 0
 Sends w node = worn w ≡ None → w.wire.sent < (world_stepped w (step w (Event.Turn node) (Gave None))).wire.sent
 
@@ -47,7 +47,7 @@ module _ (s : Setting) (lane : ℕ) (inside : lane < LANES) (topic : Topic) (nod
     pub left : course.tasks ≡ rest
     pub fewer : sends_left course.cluster < most
 
-  -- it comes to that where the turn sends something
+  -- it comes to that if the turn sends something
   pub sending : (before : Cluster) (course : Course) → Comes s before course → course.tasks ≡ turn_exchange lane topic node ∷ rest
       → Sends (lane_at course.cluster lane) node → Goes s before course (HasSent (sends_left course.cluster))
   sending before course comes are sends =

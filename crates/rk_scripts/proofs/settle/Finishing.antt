@@ -14,7 +14,7 @@ use Rattle.rk_scripts.proofs.settle.Tasks.{Task}
 abbrev beginning : Setting → SettlingCommand → Course
 beginning s command = course_of s.start (command s.start)
 
--- a command ends where its course, which is sane at its beginning, is done some day unless the command is refused
+-- a command ends if its course, which is sane at its beginning, is done some day unless the command is refused
 pub ends_unless : (code : Cluster → Option Code) (command : SettlingCommand) → ((masters : ℕ) (cluster : Cluster) → NamesMasters masters cluster → AreTasks masters (command cluster))
     → ((s : Setting) → code s.start ≡ None → IsSane s (beginning s command) → Goes s s.start (beginning s command) Never) → EndsUnlessRefused code command
 ends_unless code command lawful goes masters backups before adversary few backed few_backups run added allowed =
@@ -45,7 +45,7 @@ pub always_ends : (command : SettlingCommand) → ((masters : ℕ) (cluster : Cl
 always_ends command lawful goes = ends_unless (λ cluster. None) command lawful (λ s free. goes s)
 
 module _ (s : Setting) where
-  -- where no task is left the course is done
+  -- if no task is left the course is done
   pub left_none : (before : Cluster) (course : Course) → Goes s before course (HasLeft []) → Goes s before course Never
   left_none before course goes = goes_on s before course (HasLeft []) Never goes (λ later comes none. goes_done s before later Never (inl none))
 

@@ -107,6 +107,6 @@ module _ (s : Setting) where
   occurs_move before course task rest occurrence failed P comes are moves tells added holds =
       grind (arith, one_move, acted, occurring, occurring_by, going_on, none-some)
 
--- where the list of one occurrence finds no lane worn, this does not
+-- if the list of one occurrence finds no lane worn, the occurrence does not either
 pub alone_fresh : (cluster : Cluster) (occurrence : Occurrence) → occurrence_error cluster (occurrence ∷ []) ≡ None → (acted cluster occurrence).worn ≡ None
 alone_fresh cluster occurrence none = grind (arith, acted, going_on)

@@ -33,12 +33,12 @@ use Rattle.rk_scripts.proofs.settle.Tasks.{Task}
 use Rattle.rk_scripts.proofs.settle.Tracking.{IsTracked, IsTrackedTo, tracking}
 use Rattle.rk_scripts.proofs.settle.Walking.{HasTurned}
 
--- a test of two parts fails where the second does
+-- a test of two parts fails if the second does
 second_fails : (a b : Bool) → b ≡ false → (a && b) ≡ false
 second_fails true b is = is
 second_fails false b is = refl
 
--- where a role has its closing entry, that is closed
+-- if a role has its closing entry, that is closed
 closed_at : (role : Role) (entry : ℕ) (closing : Entry) (range : Range) (from : ℕ) (list : List Entry) → role ≡ Role.Joining (Some entry)
     → HasClosing (joined_place role) closing range from list → IsClosedAt closing range from list entry
 closed_at role entry closing range from list is has = subst (λ (r : Role). HasClosing (joined_place r) closing range from list) is has
@@ -60,7 +60,7 @@ module _ (s : Setting) (lane : ℕ) (inside : lane < LANES) (origin : Cluster) (
         by (Role.Wanting from) at both = second_fails ((tablet_in w target tablet).handover.term == row.term) (is_target (tablet_in w target tablet).handover.role) (ap is_target at)
         by _ at never = absurd never
 
-    -- the source tells what it hands over, and the target is granted the tablet
+    -- the source reports what it hands over, and the target is granted the tablet
     pub hands_it : (before : Cluster) (course : Course) → Comes s before course → course.tasks ≡ reaches lane tablet Granted ∷ rest → IsSameBeside lane origin course.cluster
         → IsIn tablet row (Opening source sfrom target (Some dfrom)) source target (lane_at course.cluster lane)
         → (tablet_in (lane_at course.cluster lane) source tablet).handover.term ≡ row.term → (tablet_in (lane_at course.cluster lane) source tablet).handover.role ≡ Role.Frozen
@@ -108,7 +108,7 @@ module _ (s : Setting) (lane : ℕ) (inside : lane < LANES) (origin : Cluster) (
         reply : Message
         reply = hands_over s.masters lane w good row there.found source sfrom target dfrom there.phase_is there.source_lives term role
 
-    -- where the tablet moves
+    -- if the tablet moves
     pub moving_granted : (before : Cluster) (course : Course) → Comes s before course → course.tasks ≡ reaches lane tablet Granted ∷ rest → IsSameBeside lane origin course.cluster
         → IsIn tablet row (Moving source sfrom target dfrom) source target (lane_at course.cluster lane) → Goes s before course (IsLaneNow lane origin rest (AfterGranted tablet))
     moving_granted before course comes are beside there = go (is_at_term (tablet_in w target tablet) row.term is_target) refl

@@ -23,7 +23,7 @@ module _ (w : World) (client : ℕ) (strange : is_added w.ledger client ≡ fals
 
 -- ---- one lane after the other
 
--- nothing was worn where nothing is in the end
+-- nothing was worn if nothing is in the end
 first_fresh : (first : Acted) (worn : Option ℕ) (next : Cluster → Acted) → first.worn ≡ worn → (going_on first worn next).worn ≡ None → worn ≡ None
 first_fresh first None next is fresh = refl
 first_fresh first (Some number) next is fresh = sym is ∙ fresh
@@ -101,7 +101,7 @@ module _ (client : ℕ) where
       (one_more cluster first inside added) more)
       fresh
 
--- so the clients of each lane are those with sessions after it, where they were before and no code refuses it
+-- so the clients of each lane are those with sessions after it, if they were before and no code refuses it
 pub client_own : (cluster : Cluster) (client : ℕ) → HasOwnClients cluster → client_code cluster client ≡ None → (all_acted cluster (client_makes cluster client)).worn ≡ None
     → HasOwnClients (all_acted cluster (client_makes cluster client)).cluster
 client_own cluster client own none fresh =

@@ -22,7 +22,7 @@ use Rattle.rk_scripts.proofs.settle.Turning.{duty_is}
 use Rattle.rk_scripts.proofs.settle.PatientSteps.{below_apart, entries_order, frozen_own, joined_own}
 use Rattle.rk_inv_wellformed.proofs.masters.Sealing.{sides_tablets}
 
--- a handover goes on so: its term stays, a target stays one, and one that has all too
+-- a handover goes on so: its term stays, a target stays one, and so does a target that has all
 pub record Onward (before after : Handover) : Type 0 where
   pub term : after.term ≡ before.term
   pub target : is_target before.role ≡ true → is_target after.role ≡ true
@@ -73,7 +73,7 @@ module _ (number : ℕ) where
   pub turn_on : (master : Master) → IsInOrder master.tablets → GoesOnAt number master (master_turn master).master
   turn_on master order = duties_on master.tablets master order (λ q tablet is. ap (λ (o : Option Tablet). unwrap_or o no_tablet) is)
 
-  -- ---- what a backup tells
+  -- ---- what a backup reports
 
   noted_on : (master : Master) (call : Call) (end : Ended) (place : ℕ) → GoesOnAt number master (with_ended master place (Some call) (end ∷ [])).master
   noted_on master call end place = go (get master.tablets number) refl (found_changed (λ (q : ℕ) (tablet : Tablet). noting call end tablet) master.tablets number)

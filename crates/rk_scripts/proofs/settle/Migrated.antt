@@ -27,7 +27,7 @@ use Rattle.rk_scripts.proofs.settle.Tasks.{Task}
 pub lives_on : (w v : World) (m : ℕ) → v.crashed ≡ w.crashed → has_crashed w m ≡ false → has_crashed v m ≡ false
 lives_on w v m same living = ap (λ (crashed : List ℕ). list_any (λ (c : ℕ). c == m) crashed) same ∙ living
 
--- where the coordinator is as it was, so is the row
+-- if the coordinator is as it was, so is the row
 pub in_still : (tablet : ℕ) (row : Row) (phase : Phase) (source target : ℕ) (w v : World) → v.coordinator ≡ w.coordinator → v.crashed ≡ w.crashed → IsIn tablet row phase source target w
     → IsIn tablet row phase source target v
 in_still tablet row phase source target w v same crashed there = grind (arith, row_of, lives_on)

@@ -26,7 +26,7 @@ module _ (s : Setting) where
     abbrev HasNoticed : List Task → Course → Type 0
     HasNoticed left course = (course.tasks ≡ left) × AllNoticed (lane_at course.cluster lane)
 
-    -- where all are noticed nothing is done
+    -- if all are noticed nothing is done
     noticed_again : (before : Cluster) (course : Course) → Comes s before course → HasNoticed (notices lane ∷ rest) course → Goes s before course (HasNoticed rest)
     noticed_again before course comes has = go (unnoticed (lane_at course.cluster lane)) refl
       where

@@ -10,11 +10,11 @@ use Rattle.rk_inv_lanes.proofs.late.Tests.{none_passes}
 
 -- ---- lists of numbers
 
--- whether a number stands in a list
+-- whether a number is in a list
 abbrev pub is_in : ℕ → List ℕ → Bool
 is_in number list = list_any (λ (other : ℕ). other == number) list
 
--- it stands there, and what stands there does so
+-- a number for which this holds is in the list, and for a number in the list it holds
 pub stands_in : (list : List ℕ) (number : ℕ) → is_in number list ≡ true → Contains list number
 stands_in list number there =
     let found = Any-from_list_any (λ (other : ℕ). other == number) list there in
@@ -24,11 +24,11 @@ pub in_where : (list : List ℕ) (number : ℕ) → Contains list number → is_
 in_where list number at =
     list_any_at (λ (other : ℕ). other == number) list at.0 number at.1 (ap (λ (other : ℕ). other == number) at.2 ∙ eq-eqb number number refl)
 
--- what all have, one has that stands among them
+-- what all have, each among them has
 pub one_of : (P : ℕ → Type 0) (list : List ℕ) (number : ℕ) → All P list → is_in number list ≡ true → P number
 one_of P list number all there = All-contains P list number all (stands_in list number there)
 
--- the numbers of a range stand in it
+-- the numbers of a range are in it
 pub in_range : (start count number : ℕ) → start ≤ number → number < start + count → is_in number (range_with_len start count) ≡ true
 in_range start count number first before =
     let within : number - start < count = omega (arith, first, before) in
@@ -59,7 +59,7 @@ module _ (w : World) (formed : IsWellFormed w) where
   abbrev is_unnoticed_in : ℕ → Bool
   is_unnoticed_in master = has_crashed w master && not (is_noticed w.coordinator master)
 
-  -- where none is found that has crashed and was not noticed, all were
+  -- if none is found that has crashed and was not noticed, all were
   pub none_unnoticed : find is_unnoticed_in (range_with_len 1 w.coordinator.masters) ≡ None → AllNoticed w
   none_unnoticed none master crashed = go (has_crashed w master) (is_noticed w.coordinator master) crashed
       (one_of (λ (other : ℕ). is_unnoticed_in other ≡ false) (range_with_len 1 w.coordinator.masters) master
@@ -70,10 +70,10 @@ module _ (w : World) (formed : IsWellFormed w) where
       go true false gone is = absurd (cc is)
       go false b gone is = absurd (cc gone)
 
-  -- one that is found has crashed
+  -- a master that is found has crashed
   pub unnoticed_crashed : (dead : ℕ) → find is_unnoticed_in (range_with_len 1 w.coordinator.masters) ≡ Some dead → has_crashed w dead ≡ true
   unnoticed_crashed dead found = grind (arith, has_crashed, is_noticed, find_passes)
 
-  -- and where all were noticed none is found
+  -- and if all were noticed none is found
   pub all_noticed_none : (dead : ℕ) → AllNoticed w → find is_unnoticed_in (range_with_len 1 w.coordinator.masters) ≡ Some dead → ⊥
   all_noticed_none dead all found = grind (arith, has_crashed, is_noticed, find_passes, true≢false)

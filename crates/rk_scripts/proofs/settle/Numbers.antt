@@ -7,13 +7,13 @@ sum_below : (ℕ → ℕ) → ℕ → ℕ
 sum_below f zero = 0
 sum_below f (suc n) = sum_below f n + f n
 
--- no more is summed where none is more
+-- no more is summed if none is more
 no_more : (f g : ℕ → ℕ) (n : ℕ) → ((q : ℕ) → g q ≤ f q) → sum_below g n ≤ sum_below f n
 unfolding sum_below
 no_more f g zero each = omega arith
 no_more f g (suc n) each = omega (arith, no_more f g n each, each n)
 
--- and less where one is less
+-- and less if one is less
 less : (f g : ℕ → ℕ) (n at : ℕ) → ((q : ℕ) → g q ≤ f q) → at < n → g at < f at → sum_below g n < sum_below f n
 unfolding sum_below
 less f g zero at each inside fewer = absurd (omega (arith, inside))
@@ -49,7 +49,7 @@ left_no_more before after sent =
     no_more (λ lane. sends_left_in (lane_at before lane)) (λ lane. sends_left_in (lane_at after lane)) LANES
     (λ q. lower WORN_NUMBER (lane_at before q).wire.sent (lane_at after q).wire.sent (sent q))
 
--- and fewer where more were sent in one lane that was not worn
+-- and fewer if more were sent in a lane that was not worn
 pub left_fewer : (before after : Cluster) (lane : ℕ) → SendNoFewer before after → lane < LANES → (lane_at before lane).wire.sent < WORN_NUMBER
     → (lane_at before lane).wire.sent < (lane_at after lane).wire.sent → sends_left after < sends_left before
 unfolding sends_left

@@ -33,7 +33,7 @@ module _ (s : Setting) (lane : ℕ) (inside : lane < LANES) (origin : Cluster) (
     abbrev tracked : IsTracked topic s.masters lane Holds
     tracked = ordered_tracked topic w m ours to_is on living s.masters lane Next next enter
 
-    -- what `Next` says holds at the end, where nothing lies beyond some number
+    -- what `Next` says holds at the end, when nothing lies beyond some number
     record HasEnded (v : World) : Type 0 where
       from : ℕ
       holds : Next from v
@@ -100,7 +100,7 @@ module _ (s : Setting) (lane : ℕ) (inside : lane < LANES) (origin : Cluster) (
       (λ end comes_end done.
       goes_here s before end (IsLaneNow lane origin rest Changed) comes_end (record { left = done.left; beside = done.beside; now = done.now.holds.nodes_are }))
 
-  -- one that is answered to the coordinator has been taken, and its answer too
+  -- an order that is answered to the coordinator has been taken, and its answer too
   pub two_orders : (reply : Message) (answers : reply.to ≡ Node.Coordinator) (on_it : is_on topic reply.body ≡ true) (silent : (coordinator_step w.coordinator reply).sends ≡ [])
       → ((journal : List Placed) → HasOne topic reply (map (filled journal (made topic w m ours to_is on living).served) (made topic w m ours to_is on living).sends))
       → (before : Cluster) (course : Course) → Comes s before course → course.tasks ≡ coordinator_exchange lane topic ∷ rest → IsSameBeside lane origin course.cluster

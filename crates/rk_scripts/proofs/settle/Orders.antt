@@ -41,7 +41,7 @@ abbrev pub IsSentOn : ℕ → Traffic → List Message → Traffic → Type 0
 IsSentOn n wire list now = (now ≡ sent_on wire list) ⊎ (now ≡ without_message n (sent_on wire list))
 
 module _ (topic : Topic) where
-  -- beyond the one that is alone, nothing is on the topic
+  -- beyond the message that is alone, nothing is on the topic
   pub off_beyond : (from number : ℕ) (wire : Traffic) → from < number → OnlyAt topic from number wire → OnlyOff topic number wire
   off_beyond from number wire after only n message beyond found = grind (arith, is_on)
 
@@ -61,7 +61,7 @@ module _ (topic : Topic) where
       (pending_without topic n n ours (sent_on wire list) pending (λ same. omega (arith, same, pending.after))))
       is
 
-  -- one that is forgotten is not the one that is on the topic
+  -- a message that is forgotten is not the one on the topic
   off_apart : (w : World) (from n : ℕ) (ours : Message) → is_on topic ours.body ≡ true → (pending : IsPending topic from ours w.wire) → IsOffAt topic w n → pending.number ≡ n → ⊥
   off_apart w from n ours on pending off same =
       false≢true (sym (off ours (ap (λ (k : ℕ). get w.wire.messages k) (sym same) ∙ pending.found)) ∙ on)

@@ -14,7 +14,7 @@ abbrev pub Each : (Task → Type 0) → List Task → Type 0
 Each P [] = Unit {0}
 Each P (task ∷ rest) = P task × Each P rest
 
--- before these tasks more stand that have a property
+-- before these tasks come more that have a property
 pub record Precedes (P : Task → Type 0) (rest left : List Task) : Type 0 where
   pub more : List Task
   pub are : Each P more

@@ -11,7 +11,7 @@ use Rattle.rk_scripts.proofs.settle.OwnClients.{AddsNobody, HasSameClients, same
 use Rattle.rk_scripts.proofs.settle.SameNumbers.{found_alike, in_order_alike}
 use Rattle.rk_inv_wellformed.proofs.maps.Numbered.{numbers_stay}
 
--- sessions stand in order, and the clients of each lane are those that have one
+-- sessions are in order, and the clients of each lane are those that have one
 pub record HasOwnClients (cluster : Cluster) : Type 0 where
   pub order : IsInOrder cluster.sessions
   pub lanes : EachLane (λ w. numbers w.ledger.clients ≡ numbers cluster.sessions) cluster

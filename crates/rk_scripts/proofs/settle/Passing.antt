@@ -256,8 +256,8 @@ module _ (s : Setting) (lane : ℕ) (inside : lane < LANES) (most : ℕ) (rest :
     pub quiet : is_quiet_lane (lane_at now lane) ≡ true
     pub calls : clients_in lane now.sessions ≡ []
 
-  -- the lane is passed: nothing is on its wire, and the others are as they were; and fewer messages may be sent than so many, or it was left
-  -- quiet
+  -- the lane is passed: nothing is on its wire, and the others are as they were; and fewer messages may be sent than so many, or it was
+  -- left quiet
   pub record IsPassed (origin : Cluster) (course : Course) : Type 0 where
     pub left : course.tasks ≡ rest
     pub beside : IsSameBeside lane origin course.cluster
@@ -288,7 +288,7 @@ module _ (s : Setting) (lane : ℕ) (inside : lane < LANES) (most : ℕ) (rest :
       (turns_walk s lane inside origin most clients masters (empties lane ∷ rest) before course comes walked)
       (λ later comes_later done. walked_passes origin before later comes_later done)
 
-  -- where nothing was sent there is nothing to empty
+  -- if nothing was sent there is nothing to empty
   idle_passes : (origin before : Cluster) (course : Course) → Comes s before course → IsIdle s lane inside origin most [] (empties lane ∷ rest) course
       → AreOwned s lane inside origin most course → clients_in lane origin.sessions ≡ [] → Goes s before course (IsPassed origin)
   idle_passes origin before course comes idle owned none =

@@ -160,11 +160,11 @@ side_still known number first (side ∷ sides) bytes some long none is =
     go later true is = is
     go later false is = later is
 
--- one that is not there is not stored
+-- a side segment that is not there is not stored
 pub side_missing : (known : List Known) (number first : ℕ) (sides : List (List ℕ)) → first + length sides ≤ number → stored_in known number (numbered first sides) ≡ false
 side_missing known number first sides past = grind (arith, is_whole, numbered_past)
 
--- a side segment with bytes becomes known to the log, where the first backup is known to hold nothing of it
+-- a side segment with bytes becomes known to the log, if the first backup is known to hold nothing of it
 pub side_on : (master : Master) (items : List Held) → IsFresh master.log → 1 ≤ length (spelled_all (as_entries items)) → WaitsOn master (with_side_segment master items)
 side_on master items fresh long = record {
   staged = λ range is. is;

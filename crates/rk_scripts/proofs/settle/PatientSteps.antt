@@ -80,7 +80,7 @@ begun_calm false handover calm = tt
 pub frozen_own : (handover : Handover) → handover.role ≡ Role.Closing → frozen handover handover.term ≡ Some (record handover { role = Role.Frozen })
 frozen_own handover is = grind (arith, cond-true, in_role, role_frozen, eq-eqb)
 
--- and one that has all but its closing entry may join with it
+-- and a tablet that has all but its closing entry may join with it
 pub joined_own : (handover : Handover) (place : ℕ) → handover.role ≡ Role.Joining None
     → joined handover handover.term (Some place) ≡ Some (record handover { role = Role.Joining (Some place) })
 joined_own handover place is = grind (arith, cond-true, in_role, role_joined, eq-eqb)
@@ -131,7 +131,7 @@ module _ (now : Master) (number : ℕ) (tablet : Tablet) (at : tablet_at now num
 pub below_apart : (low high : ℕ) → low < high → high ≡ low → ⊥
 below_apart low high below same = omega (arith, below, same)
 
--- all tablets that are left go on, where what those that went on wait for has not come
+-- all tablets that are left go on, if what those that went on wait for has not come
 all_gone_on : (list : NumberMap Tablet) (now : Master) → IsInOrder list → IsInOrder now.tablets
     → ((q : ℕ) (tablet : Tablet) → get list q ≡ Some tablet → tablet_at now q ≡ tablet) → ((q : ℕ) → get list q ≡ None → Waits now (tablet_at now q))
     → ArePatient (all_going_on now list)
@@ -162,7 +162,7 @@ all_gone_on (entry ∷ rest) now sorted order coming gone =
 pub going_on_patient : (master : Master) → IsInOrder master.tablets → ArePatient (all_going_on master master.tablets)
 going_on_patient master order = grind (arith, all_gone_on, no_tablet)
 
--- ---- what a backup tells
+-- ---- what a backup reports
 
 item_order : (master : Master) (entry : Entry) → IsInOrder master.tablets → IsInOrder (with_entry_item master entry).tablets
 item_order master (Entry.Held held) order = order

@@ -127,7 +127,7 @@ forgotten_cases P w number same without = grind (arith, world_stepped, stepped_b
 pub forgotten_less : (w : World) (number n : ℕ) (message : Message) → get (forgotten w number).wire.messages n ≡ Some message → get w.wire.messages n ≡ Some message
 forgotten_less w number n message = grind (arith, forgotten_cases, remove_less)
 
--- and not the one that is forgotten
+-- and not the message that is forgotten
 pub forgotten_gone : (w : World) (number : ℕ) → get (forgotten w number).wire.messages number ≡ None
 forgotten_gone w number = grind (arith, world_stepped, stepped_by, get_removed)
 

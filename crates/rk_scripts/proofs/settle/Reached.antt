@@ -22,7 +22,7 @@ caught_stepped w event called caught = go (refusal w event)
 caught_kept : IsKeptByLanes AllCaughtUp
 caught_kept = search (caught_new, caught_stepped, caught_asked, caught_accepted)
 
--- ---- sessions stand in order
+-- ---- sessions are in order
 
 visited_ordered : (cluster : Cluster) (lane client : ℕ) (answer : Result Visited StepError) → IsInOrder cluster.sessions → IsInOrder (cluster_visited cluster lane client answer).sessions
 visited_ordered cluster lane client (Ok visited) order = in_order_insert cluster.sessions client visited.session order
@@ -52,6 +52,6 @@ module _ (masters backups : ℕ) (cluster : Cluster) (reached : IsReached master
   pub reached_free : (lane : ℕ) → lane < LANES → NoDeadOwner (lane_at cluster lane).coordinator
   reached_free = reached_lane IsFree free_kept
 
-  -- its sessions stand in order
+  -- its sessions are in order
   pub reached_ordered : IsInOrder cluster.sessions
   reached_ordered = subst (λ (it : Cluster). IsInOrder it.sessions) (sym reached.is) (ordered_run (new_cluster masters backups) reached.before tt)

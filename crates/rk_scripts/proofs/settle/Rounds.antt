@@ -15,7 +15,7 @@ use Rattle.rk_scripts.proofs.settle.Passing.{IsPassed, passing_idle, passing_wal
 use Rattle.rk_scripts.proofs.settle.Setting.{Setting, eight}
 use Rattle.rk_scripts.proofs.settle.Tasks.{Task, begins, ends, settles}
 
--- A cluster whose lanes are quiet and silent, and where no lane has an outstanding call, is at rest.
+-- A cluster whose lanes are quiet and silent, and in which no lane has an outstanding call, is at rest.
 
 -- what each world of a list passes, by its place, all pass
 all_pass : (test : World → Bool) (worlds : List World) (other : ℕ → World) → ((place : ℕ) → place < length worlds → test (slice_index_or worlds place (other place)) ≡ true)
@@ -24,7 +24,7 @@ all_pass test [] other each = refl
 all_pass test (w ∷ worlds) other each = and_from (test w) (list_all test worlds) (each zero (omega arith))
     (all_pass test worlds (λ place. other (suc place)) (λ place inside. each (suc place) (omega (arith, inside))))
 
--- where no lane has an outstanding call, there is none
+-- if no lane has an outstanding call, there is none
 no_calls : (sessions : NumberMap Session) → ((lane : ℕ) → lane < LANES → clients_in lane sessions ≡ [])
     → list_all (λ (entry : ℕ × Session). is_none entry.1.outstanding) sessions ≡ true
 no_calls [] none = refl
@@ -124,7 +124,7 @@ module _ (s : Setting) where
       → Goes s before course P
   rest_ends before course P comes are at_rest = grind (arith, goes_on, still_move, settles, round_of, lane_tasks, goes_done)
 
-  -- a round, where the cluster is not at rest
+  -- a round, if the cluster is not at rest
   round : (most : ℕ) (before : Cluster) (course : Course) → Comes s before course → course.tasks ≡ settles ∷ [] → is_at_rest course.cluster ≡ false
       → AreNoticed LANES course.cluster → Mode most 0 course.cluster → Goes s before course (IsRound most LANES (settles ∷ []))
   round most before course comes are busy noticed mode =
@@ -164,7 +164,7 @@ module _ (s : Setting) where
 
   -- ---- all rounds
 
-  -- rounds end, where all wires are empty
+  -- rounds end, if all wires are empty
   rounds_end : (fuel : ℕ) (before : Cluster) (course : Course) → Comes s before course → course.tasks ≡ settles ∷ [] → AreNoticed LANES course.cluster
       → AreSilent LANES course.cluster → sends_left course.cluster < fuel → Goes s before course Never
   rounds_end zero before course comes are noticed silent few = absurd (omega (arith, few))

@@ -63,6 +63,6 @@ module _ (script : List ℕ) (part : Option ℕ) (fates : List (List Fate)) wher
       → FinishesIn adversary code command it.cluster
   scripts_end_commands adversary code command ends = grind (arith, historical, scripts_added)
 
-  -- where no replica fails any more it comes to rest, unless a lane is worn
+  -- if no replica fails any more it comes to rest, unless a lane is worn
   pub scripts_rest : Rests (settling it.cluster)
   scripts_rest = reached_rests historical.masters historical.backups it.cluster script_reached scripts_added

@@ -87,7 +87,7 @@ found_behind : (test : NumberedBytes → Bool) (list more : List NumberedBytes) 
 found_behind test [] more some = some
 found_behind test (x ∷ list) more some = grind (arith, (found_behind test list more some))
 
--- one that is there is found
+-- a side segment that is there is found
 there_found : (sides : List (List ℕ)) (first number : ℕ) → first ≤ number → number < first + length sides → is_some (segment_of number (numbered first sides)) ≡ true
 there_found sides first number low high =
     ap (λ (found : Option NumberedBytes). is_some found) (numbered_at number first (number - first) sides (omega (arith, low)) (omega (arith, low, high)))

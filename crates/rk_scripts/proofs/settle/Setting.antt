@@ -15,7 +15,7 @@ pub record Setting : Type 0 where
   pub reached : IsReached masters backups start
 
 module _ (s : Setting) where
-  -- a course that goes on with a run, where each client with a session was added in each lane
+  -- a course that goes on with a run, in whose cluster each client with a session was added in each lane
   pub record IsSane (course : Course) : Type 0 where
     pub coursing : IsCoursing s.masters s.backups s.start s.reached course
     pub added : AreAdded course.cluster

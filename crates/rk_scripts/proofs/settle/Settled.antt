@@ -11,7 +11,7 @@ use Rattle.rk_scripts.proofs.settle.Rounds.{Never, rounds}
 use Rattle.rk_scripts.proofs.settle.Setting.{IsSane, Setting}
 use Rattle.rk_scripts.proofs.settle.Tasks.{settles}
 
--- ---- where no task is left the cluster is at rest
+-- ---- if no task is left the cluster is at rest
 
 -- what became of the calls of replicas in so many moves
 fates_of : Adversary → ℕ → Course → List Fate
@@ -42,7 +42,7 @@ module _ (adversary : Adversary) (masters backups : ℕ) (cluster : Cluster) (re
   pub reached_ends : Ends adversary (settling cluster)
   reached_ends = grind (arith, goes, after_moves, settling, fates_lead, is_at_rest, settled_rests, fates_of)
 
--- ---- where no replica fails
+-- ---- if no replica fails
 
 -- no replica has failed after moves at which none fails
 all_well : (moves : ℕ) (course : Course) → IsWell course → IsWell (after_moves faultless moves course)

@@ -10,7 +10,7 @@ use Rattle.rk_scripts.proofs.settle.Exchanged.{Sends}
 use Rattle.rk_scripts.proofs.settle.Reached.{reached_caught}
 use Rattle.rk_scripts.proofs.settle.Setting.{IsSane, Setting, here}
 
--- where an entry is at a place past so many, those past them are some
+-- if an entry is at a place past so many, those past them are some
 pub past_some : (list : List Entry) (count place : ℕ) (entry : Entry) → count ≤ place → slice_get list place ≡ Some entry → drop count list ≢ []
 past_some list count place entry behind stands none =
     omega (arith, behind, slice_get_within list place entry stands, length-drop count list, ap (λ (it : List Entry). length it) none)
@@ -25,7 +25,7 @@ module _ (w : World) (master : ℕ) (lives_there : has_crashed w master ≡ fals
       subst (λ (refused : Option StepError). w.wire.sent < (world_stepped w (stepped_by w (Event.Turn (Node.Master master)) (Gave None) refused)).wire.sent) (sym none)
       (wire_counts w master (Gave None) formed room.bytes caught some)
 
-  -- where a call waits something is staged
+  -- if a call waits something is staged
   pub call_staged : (masters lane client seq : ℕ) → IsGoodLane Lasts masters lane w → is_staged (master_at w master) client seq ≡ true → staged (master_at w master) ≢ []
   call_staged masters lane client seq good waits = go (master_at w master).calls refl waits
     where

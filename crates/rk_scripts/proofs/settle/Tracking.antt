@@ -54,7 +54,7 @@ module _ (topic : Topic) where
   abbrev pub HasNone : ℕ → World → Type 0
   HasNone from w = (n : ℕ) (message : Message) → from < n → get w.wire.messages n ≡ Some message → ⊥
 
-  -- what holds once all messages up to a number were handed out, and is kept where a message off the topic is forgotten, and where the
+  -- what holds once all messages up to a number were handed out, and is kept when a message off the topic is forgotten, and when the
   -- oldest one behind the number is delivered and forgotten
   pub record IsTracked (masters lane : ℕ) (Holds : ℕ → World → Type 0) : Type 0 where
     pub forgets : (from n : ℕ) (w : World) → IsOffAt w n → Holds from w → Holds from (forgotten w n)

@@ -54,7 +54,7 @@ pub record IsTurned (w now : World) : Type 0 where
   pub wire : SendsOrNot w.wire now.wire
 
 module _ (w : World) where
-  -- one master is another, where the same is staged
+  -- one master is replaced by another at which the same is staged
   staged_there : (number : ℕ) (now : Master) → staged now ≡ staged (master_at w number) → (master : ℕ)
       → staged (master_at (with_master w number now) master) ≡ staged (master_at w master)
   staged_there number now same master = grind (arith, staged, new_master, get_same, master_at, get_other, cases_eq)

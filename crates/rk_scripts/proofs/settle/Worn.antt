@@ -5,7 +5,7 @@ use Rattle.rk_scripts.proofs.Words.{WORN_NUMBER, ask_refusal, refusal, where_tru
 use Rattle.rk_inv_wellformed.proofs.room.Rises.{keeps_to_top}
 use Rattle.rk_inv_wellformed.proofs.lanes.Events.{not_too_great}
 
--- an event that finds its lane not worn, where it may not come anyway
+-- an event that finds its lane not worn, unless it may come anyway
 pub fresh_event : (w : World) (event : Event) (called : Called) → refusal w event ≡ option_or (option_map StepError.Worn (worn w)) (fault_of w event)
     → worn_in (step w event called) ≡ None → worn w ≡ None
 fresh_event w event called is none = grind (arith, worn, refusal, none-some, worn_in, stepped_by)
