@@ -49,11 +49,11 @@ module _ (v : View) (master : ℕ) (sound : SoundView v) (may : MayCrashFormed v
 
   -- ---- rebuilds
 
-  -- who is dead now was so, or is the one that crashes
+  -- who is dead now was so, or is the master that crashes
   dead_or : {P : Type 0} (q : ℕ) → now.live q ≡ false → (v.live q ≡ false → P) → (v.live q ≡ true → q ≡ master → P) → P
   dead_or q dead was crashes = grind (arith, lives, false≢true, put_other, cases_eq, cases_Bool)
 
-  -- what it has in marked pieces of a row tells nothing new
+  -- what it has in marked pieces of a row records nothing new
   module _ (row : Row) (has : Contains v.rows row) where
     some : row.range.first ≤ row.range.last
     some = All-contains (λ (r : Row). r.range.first ≤ r.range.last) v.rows row may.ranges has
@@ -138,7 +138,7 @@ module _ (v : View) (master : ℕ) (sound : SoundView v) (may : MayCrashFormed v
         λ (q : ℕ) (lives : now.live q ≡ true). sound.records.items q (lived q lives),
       )
 
--- a world where a master crashes is seen so
+-- a world in which a master crashes is seen so
 live_now : (w : World) (master q : ℕ) → lives (with_crash w master) q ≡ put (lives w) master false q
 live_now w master q = grind (arith, has_crashed, list_any-append, put_is, lives, or_right, or_left, eq-eqb, ne_eqb)
 

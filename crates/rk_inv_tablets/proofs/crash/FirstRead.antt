@@ -102,7 +102,7 @@ first_read (first ∷ list) bytes rest lawful is =
 abbrev pub is_stored : (ℕ → List ℕ) → EntryEnd → Bool
 is_stored stored end = nat_le end.offset (length (stored end.segment))
 
--- how many of these entries of a segment are stored, which stand behind so many bytes, and others then
+-- how many of these entries of a segment are stored, which follow so many bytes, and others then
 abbrev count_in : (ℕ → List ℕ) → ℕ → ℕ → List Entry → List EntryEnd → ℕ
 count_in stored segment offset list others = prefix_len (is_stored stored) (ends_in segment offset list ++ others)
 
@@ -121,7 +121,7 @@ stored_in stored segment offset (entry ∷ read) more others fits =
     ∙ one (count_in stored segment (next + length (spelled_all read)) more others)
     ∙ ap (λ (n : ℕ). suc (length read) + count_in stored segment n more others) at
 
--- what is read of a segment that spells a group: bytes that are stored, at least those known to be; and whole, where bytes of a later main
+-- what is read of a segment that spells a group: bytes that are stored, at least those known to be; and whole, if bytes of a later main
 -- segment are stored
 pub record IsPartRead (known : ℕ → ℕ) (stored : ℕ → List ℕ) (segment : ℕ) (group read : List Entry) : Type 0 where
   pub bytes : List ℕ
@@ -154,7 +154,7 @@ pub all_parts : (whole bytes more : List ℕ) → whole ≡ bytes ++ more → le
 all_parts whole bytes [] is few = sym (is ∙ append-nil bytes)
 all_parts whole bytes (byte ∷ more) is few = absurd (omega (arith, ap length is, length-append bytes (byte ∷ more), few))
 
--- no bytes stand at the front of none
+-- no bytes are at the front of none
 none_front : (bytes : List ℕ) → IsFirstPart bytes [] → bytes ≡ []
 none_front [] part = refl
 none_front (byte ∷ bytes) part = absurd (cc part.parts)

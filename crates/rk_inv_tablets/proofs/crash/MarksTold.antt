@@ -30,7 +30,7 @@ use Rattle.rk_transfer.specs.declared.role.Role.TheVariants as roles
 
 -- ---- places
 
--- where it merged, the place of a rebuilder is that of the row
+-- if it merged, the place of a rebuilder is that of the row
 place_of_only : (role : Role) (place term kept applied : ℕ) → Holds (bond_of (OnlyRebuilder place) role) term kept applied → kept ≡ term → has_merged role ≡ true → own_place role ≡ place
 place_of_only role place term kept applied fits at merged = grind (arith, false≢true)
 
@@ -103,7 +103,7 @@ unmarked_grow marks from old new grown =
       parts = ap (unmarked_from marks from) grown.parts ∙ ap (unmarked marks from) behind.parts ∙ rest.parts;
     }
 
--- what is applied tells no more than all
+-- what is applied records no more than all
 truth_among : (written : ℕ → Written) (range : Range) (m : Member) → AreAmong (member_truth written range m) (member_material written range m)
 truth_among written range m =
     let w : Written = written m.master in
@@ -126,7 +126,7 @@ all_meets s f l t g m some all = grind (arith, nat_tests)
 pub counts_touches : (range : Range) (entry : Entry) → range.first ≤ range.last → counts range entry ≡ true → touches range entry ≡ true
 counts_touches range entry some inside = grind (arith, all_meets, false≢true)
 
--- where a marked piece stands last, all that counts and bears no mark stands before it
+-- if a marked piece is last, all that counts and bears no mark is before it
 pub before_piece : (range : Range) (w : Written) (mark : Mark) (from : ℕ) (entry : Entry) → range.first ≤ range.last → StandsLast range w mark → (is : IsUnmarked w.marks from w.entries entry) → counts range entry ≡ true → is.place < mark.first
 before_piece range w mark from entry some last is inside =
     ⊎_elim (λ (before : is.place < mark.first). before)
@@ -152,11 +152,11 @@ module _ (v : View) (sound : SoundView v) (readable : AreReadable v.logs v.writt
   role_fits : (lineage : List Member) (q : ℕ) → row.phase ≡ Rebuilding lineage q → v.live q ≡ true → Holds (bond_of (rebuilder_post lineage q) (v.handovers q row.tablet).role) row.term (v.handovers q row.tablet).term (v.written q).applied
   role_fits lineage q is lives = grind (arith, post_of, rebuilder_is, row_in)
 
-  -- a living member is the one that rebuilds
+  -- a living member is the master that rebuilds
   pub rebuilds_it : (lineage : List Member) (to q : ℕ) → row.phase ≡ Rebuilding lineage to → is_member lineage q ≡ true → v.live q ≡ true → to ≡ q
   rebuilds_it lineage to q is member lives = grind (arith, former_gone, cases_eq)
 
-  -- what is read of a lineage tells nothing new, where that holds of its own entries and of those that are read of each other member
+  -- what is read of a lineage records nothing new, if that holds of its own entries and of those that are read of each other member
   module _ (lineage : List Member) (q : ℕ) (is : row.phase ≡ Rebuilding lineage q) (lives : v.live q ≡ true) (others : List Entry) where
     abbrev gather : Gather
     gather = v.gathers q row.tablet
@@ -219,7 +219,7 @@ module _ (v : View) (sound : SoundView v) (readable : AreReadable v.logs v.writt
       let w : Written = v.written m.master in
       Contains-append_right (counting row.range (unmarked_from w.marks m.from w.entries)) (sides m) entry at
 
-  -- where the post has this place, the own entries are those that count of the member
+  -- if the role has this place, the own entries are those that count of the member
   own_stand : (m : Member) (others : List Entry) → own_place (v.handovers m.master row.tablet).role ≡ m.from → ((entry : Entry) → Contains (material m) entry → Contains others entry) → All (IsToldBy others) (material (member_at m.master (own_place (v.handovers m.master row.tablet).role)))
   own_stand m others same among = rw same (all_stand_told (material m) others among)
 
@@ -265,7 +265,7 @@ module _ (v : View) (sound : SoundView v) (readable : AreReadable v.logs v.writt
           (held_told others named_it.0
           ((extended_among (material first) others (record { more = stored last; parts = refl })).0 named_it.0 own_of)))
 
-      -- behind the entries of a last member stands a marked piece, so backup 1 stores them where it stores some of that
+      -- behind the entries of a last member is a marked piece, so backup 1 stores them if it stores some of that
       last_stored : (mark : Mark) (place : ℕ) → StandsLast row.range (v.written last.master) mark → mark.first ≤ place → place < count_stored v last → All (IsToldBy others) (material first ++ material last)
       last_stored mark place stands from before =
           let w : Written = v.written last.master in

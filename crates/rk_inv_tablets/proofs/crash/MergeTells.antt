@@ -14,13 +14,13 @@ use Rattle.rk_inv_tablets.proofs.ready.OwnItems.{flat_stands}
 use Rattle.rk_inv_tablets.proofs.merge.OfRange.{by_member_all, newest_stand}
 use Rattle.rk_entry.specs.declared.entry.Entry.TheVariants as entries
 
--- an entry tells nothing that these do not
+-- an entry records nothing that these do not
 pub record IsToldBy (others : List Entry) (entry : Entry) : Type 0 where
   pub items : All (Contains (items_of others)) (items_in entry)
   pub ends : All (Contains (told others)) (told_by entry)
   pub floor : floor_by 1 entry ≤ floor_of others
 
--- entries tell nothing that others do not, where none of them does
+-- entries record nothing that others do not, if none of them does
 pub all_told : (list others : List Entry) → All (IsToldBy others) list → TellNoMore list others
 all_told list others each = record {
   items = λ item at.
@@ -34,7 +34,7 @@ all_told list others each = record {
       floor_within (floor_of others) list (floor_first others) (λ entry at. (All-contains (IsToldBy others) list entry each at).floor);
 }
 
--- the end of a call that left an item is told where the item stands
+-- the end of a call that left an item is recorded where the item is
 pub item_told : (list : List Entry) (item : Held) → Contains (items_of list) item → Contains (told list) (item_end item)
 item_told [] item at = absurd (omega (arith, at.1))
 item_told (entries.Held held ∷ list) item at =
@@ -48,7 +48,7 @@ item_told (entries.Refused refused ∷ list) item at =
 item_told (entries.Carried carried ∷ list) item at = Contains-append_right carried.ends (told list) (item_end item) (item_told list item at)
 item_told (entries.Joined joined ∷ list) item at = item_told list item at
 
--- an item that others have is told by them
+-- an item that others have is recorded by them
 pub held_told : (others : List Entry) (item : Held) → Contains (items_of others) item → IsToldBy others (entries.Held item)
 held_told others item at = record {
   items = All-cons (Contains (items_of others)) item [] at (All-nil _);
@@ -119,7 +119,7 @@ module _ (P : Ended → Type 0) where
 
 -- ---- the piece of a rebuild
 
--- what members tell, one after the other
+-- the ends that members record, one after the other
 told_flat : (members : List (List Entry)) → flat_map told members ≡ told (flat_map (λ entries. entries) members)
 told_flat [] = refl
 told_flat (list ∷ later) = grind (arith, told, flat_map-append, told_by, (told_flat later))
@@ -128,7 +128,7 @@ told_flat (list ∷ later) = grind (arith, told, flat_map-append, told_by, (told
 abbrev pub read_all : List (List Entry) → List Entry
 read_all members = flat_map (λ entries. entries) members
 
--- what a rebuild merged tells nothing that is not told by others, where what it read tells nothing that is not
+-- what a rebuild merged records nothing that others do not, if what it read records nothing that they do not
 pub piece_told : (own : List Entry) (members : List (List Entry)) (handover : Handover) (others : List Entry) → TellNoMore (read_all members) others → All (IsToldBy others) (as_entries (merge own members).copies ++ closing_carried handover (merge own members) ∷ [])
 piece_told own members handover others tells =
     All-append (IsToldBy others) (as_entries (merge own members).copies) (closing_carried handover (merge own members) ∷ [])
@@ -147,9 +147,9 @@ piece_told own members handover others tells =
       floor = let low = tells.floor in let some = floor_first others in omega (arith, low, some);
     }
 
--- ---- entries that stand among others
+-- ---- entries that are among others
 
--- an entry that stands among others is told by them
+-- an entry that is among others is recorded by them
 pub stands_told : (others : List Entry) (entry : Entry) → Contains others entry → IsToldBy others entry
 stands_told others entry at = record {
   items = all_by _ (items_in entry) (λ item its. flat_stands items_in others entry item at its);
@@ -157,11 +157,11 @@ stands_told others entry at = record {
   floor = one_within 1 others entry (omega arith) at;
 }
 
--- so are all of some, where others have them
+-- so are all of some, if others have them
 pub all_stand_told : (list others : List Entry) → ((entry : Entry) → Contains list entry → Contains others entry) → All (IsToldBy others) list
 all_stand_told list others more = all_by (IsToldBy others) list (λ entry at. stands_told others entry (more entry at))
 
--- what is told by entries is told by others, where these tell no more
+-- what is recorded by entries is recorded by others, if those record no more than these
 pub told_through : (list others : List Entry) (entry : Entry) → TellNoMore list others → IsToldBy list entry → IsToldBy others entry
 told_through list others entry tells is = record {
   items = All-weaker (Contains (items_of list)) (Contains (items_of others)) (λ item at. tells.items item at) (items_in entry) is.items;
@@ -173,6 +173,6 @@ told_through list others entry tells is = record {
 
 -- ---- what was gathered
 
--- what is told of what counts of each member is told of all that was gathered, and the own entries
+-- if others record the own entries, and what counts of each member, they record all that was gathered
 pub read_told : (others own : List Entry) (gather : Gather) → All (IsToldBy others) own → All (λ gathered. All (IsToldBy others) (counted_of gather.range gathered)) gather.members → All (IsToldBy others) (read_all (by_member gather own))
 read_told others own gather of_own each = by_member_all (IsToldBy others) gather own of_own each

@@ -70,7 +70,7 @@ module _ (v : View) (row : Row) (lineage : List Member) (q : ℕ) (sound : Sound
         (subst (λ (m : Merged). Contains (as_entries m.copies ++ closing_carried its m ∷ []) entry) merged.merged_is
         (rw (← piece.stands) stands))
 
-    -- so no marked entry tells anything new
+    -- so no marked entry records anything new
     pub own_marked_told : (from : ℕ) → TellNoMore (member_marked v.written row.range (member_at q from)) others
     own_marked_told from =
         all_told (member_marked v.written row.range (member_at q from)) others

@@ -30,7 +30,7 @@ named_in range entry n = grind (arith, cond_both)
 abbrev pub count_stored : View → Member → ℕ
 count_stored v m = stored_count (v.logs m.master) (stored_of v.stored m.master READ_BACKUP)
 
--- each marked entry that counts for a row, and stands among the stored ones of a member, tells nothing that these do not
+-- each marked entry that counts for a row, and is among the stored ones of a member, records nothing that these do not
 abbrev pub AreMarksTold : View → Row → Member → List Entry → Type 0
 AreMarksTold v row m others =
     (place : ℕ) (entry : Entry) → m.from ≤ place → place < count_stored v m → slice_get (v.written m.master).entries place ≡ Some entry
@@ -146,6 +146,6 @@ module _ (v : View) (sound : SoundView v) (readable : AreReadable v.logs v.writt
             let of = flat_from (side_read gathered) numbers entry kept_one.0 in
             side_told of.0 entry of.1 of.2 kept_one.1))
 
-        -- so what counts of what was read is told
+        -- so what counts of what was read is recorded
         pub counted_told : gathered.member ≡ m → All (IsToldBy others) (counted_of row.range gathered)
         counted_told is = rw is all_told

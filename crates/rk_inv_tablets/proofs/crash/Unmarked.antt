@@ -65,7 +65,7 @@ taken_extends count list = record { more = drop count list; parts = sym (take-ap
 pub first_among : (marks : List Mark) (range : Range) (from count : ℕ) (list : List Entry) (entry : Entry) → Contains (counting range (unmarked_from marks from (take count list))) entry → Contains (counting range (unmarked_from marks from list)) entry
 first_among marks range from count list entry at = search (still_contains, counting, unmarked_from, counting_extends, taken_extends)
 
--- where no Joined of a range stands behind what is applied, an unmarked one is applied
+-- if no Joined of a range is behind what is applied, an unmarked one is applied
 pub joined_applied : (range : Range) (w : Written) (from : ℕ) → joined_from range (max from w.applied) w.entries ≡ [] → (entry : Entry) → Contains (unmarked_from w.marks from w.entries) entry → is_joined_in range entry ≡ true → Contains (unmarked_from w.marks from (applied_entries w)) entry
 joined_applied range w from none entry at joins =
     let is = free_place w.marks from w.entries entry at in

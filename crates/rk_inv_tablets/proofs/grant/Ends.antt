@@ -1,4 +1,4 @@
--- What is told and what is noted of the ends of a grant.
+-- What is handed over and what is noted of the ends of a grant.
 use Rattle.std.proofs.Common.{◌≡◌, ℕ, ◌<◌, ◌≤◌, All, List, [], ◌∷◌, ◌++◌, None, refl, sym, ap, ◌∙◌, arith, append_assoc, append-nil}
 use Rattle.std.proofs.Common.{nat_cmp, Option, subst}
 use Rattle.std.specs.Cmp.{nat_cmp_is}
@@ -35,7 +35,7 @@ put_behind bound client new (entry ∷ completions) within more =
     rw (above client entry.0 less) (ap (λ (rest : Completions). entry ∷ rest)
     (put_behind bound client new completions (All-tail (λ e. e.0 ≤ bound) entry completions within) more))
 
--- so an end of such a client stands last once it is noted
+-- so an end of such a client is last once it is noted
 noted_behind : (bound : ℕ) (completions : Completions) (ended : Ended) → AreUpTo bound completions → bound < ended.client → noted completions ended ≡ completions ++ (ended.client, record { seq = ended.seq; end = ended.end }) ∷ []
 noted_behind bound completions ended within more =
     rw (get_behind bound ended.client completions within more)
@@ -59,7 +59,7 @@ noted_all bound completions (ended ∷ later) within rising =
     ∙ ap (λ (front : List Ended). front ++ later) (ends_push completions ended)
     ∙ append_assoc (ends_of completions) (ended ∷ []) later
 
--- ends that rise by client stay as they are where they are noted one after the other
+-- ends that rise by client stay as they are when they are noted one after the other
 pub rising_noted : (ends : List Ended) → RiseAbove 0 ends → ends_of (completions_from [] ends) ≡ ends
 rising_noted ends rising = noted_all 0 [] ends (All-nil _) rising
 

@@ -1,5 +1,5 @@
--- A lane stays sound when a target that waits for a row's tablet is granted it: it speaks for the row from now on, by what its source told,
--- begins to pull, and does not rebuild the row yet.
+-- A lane stays sound when a target that waits for a row's tablet is granted it: it speaks for the row from now on, by what its source
+-- handed over, begins to pull, and does not rebuild the row yet.
 use Rattle.std.proofs.Common.{◌≡◌, ℕ, ◌⊎◌, Bool, true, false, eqb, List, [], ◌∷◌, ◌++◌, Some, None, refl, sym, ap, ◌∙◌, subst, ⊎_elim, inl}
 use Rattle.std.proofs.Common.{arith, IfSome, All, Contains, zero, suc, ◌≤◌, length, drop, take, ◌<◌, append-nil}
 use Rattle.rk_inv_base.proofs.Words.{cond-false, cond-true, flat_map-append, All-weaker, Contains-append_left, get, Ended, Member, Carried}
@@ -47,7 +47,7 @@ none_between t (suc from) _ _ none = refl
 
 -- ---- what does not touch a range
 
--- does not count for it, where it is not empty
+-- does not count for it, if that is not empty
 pub touched : (range : Range) → range.first ≤ range.last → (e : Entry) → touches range e ≡ false → counts range e ≡ false
 touched range some e none = counts_none range e some none
 
@@ -108,9 +108,9 @@ module _ (range : Range) (source : ℕ) (truth material : List Entry) (from : �
   }
 
 module _ (v : View) (a : Granting v) where
-  -- ---- what the source told
+  -- ---- what the source handed over
 
-  -- what is noted for the row is what the grant tells
+  -- what is noted for the row is what the grant carries
   noted : handed_for_grant a.row v.handovers v.handed ≡ Some (record { floor = a.grant.floor; ends = a.grant.ends })
   noted = grind (arith, is_waiting, second_has, second_of, tablet, cond-true, is_wanting, old, told)
 
@@ -139,7 +139,7 @@ module _ (v : View) (a : Granting v) where
 
   -- ---- what is staged
 
-  -- what is staged now tells what it told
+  -- what is staged now records what it recorded
   tells : (r : Row) (end : Ended) → Contains v.rows r → Contains (told (rests v r)) end → Contains (told (rests (now v a) r)) end
   tells r end has there =
       ⊎_elim
@@ -156,7 +156,7 @@ module _ (v : View) (a : Granting v) where
       calls_more v (truths v) (rests v) (rests (now v a)) (now v a).written a.sound.calls tells
       (truth_same v (grow v a))
 
-  -- the completions of the target are the ends that its source told
+  -- the completions of the target are the ends that its source handed over
   kept : ends_of (completions_from [] a.grant.ends) ≡ a.grant.ends
   kept = rising_noted a.grant.ends a.may.rising
 

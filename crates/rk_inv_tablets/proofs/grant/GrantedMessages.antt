@@ -1,4 +1,4 @@
--- What messages say of a row whose target is granted its tablet: a Grant is taken by it no more, and no report tells that it waited.
+-- What messages say of a row whose target is granted its tablet: it takes a Grant no more, and no report says that it waited.
 use Rattle.std.proofs.Common.{arith, ◌≡◌, ℕ, false, List, sym}
 use Rattle.rk_inv_base.proofs.Words.{false≢true, Ended, Node, Completions, Handover, Phase, Opening, Transfer, Body, Rebuilt, Written}
 use Rattle.rk_inv_base.proofs.Words.{is_opening, JoinedIn, ReadyIn, RebuiltIn, TransferIn, View}
@@ -11,7 +11,7 @@ use Rattle.rk_inv_base.proofs.wire.TabletSays.{SaysAlike, says_itself, says_stil
 
 -- ---- reports of a master that was granted its tablet
 
--- where a row does not open, nothing is said of what is ready or transferred
+-- if a row does not open, nothing is said of what is ready or transferred
 pub ready_moved : (phase : Phase) (before after : Handover) (term q place : ℕ) → is_opening phase ≡ false → ReadyIn phase before term q place → ReadyIn phase after term q place
 ready_moved (Opening source sfrom target dfrom) before after term q place moved says = absurd (false≢true (sym moved))
 ready_moved _ before after term q place moved says = tt

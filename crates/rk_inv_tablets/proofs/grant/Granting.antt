@@ -17,7 +17,7 @@ use Rattle.rk_transfer.specs.declared.role.Role.TheVariants as roles
 use Rattle.rk_transfer.specs.declared.role.Role.TheVariants as roles
 
 -- a master is the second of two members of a lineage, and may take a grant: it is another one than the first, its post takes a target
--- that pulls, and it alone may speak for the row, which does not open; where it is to rebuild the row, it keeps a smaller term
+-- that pulls, and it alone may speak for the row, which does not open; if it is to rebuild the row, it keeps a smaller term
 pub record IsTaker (phase : Phase) (source master term own applied : ℕ) : Type 0 where
   pub apart : source ≡ master → ⊥
   pub fits : Holds (bond_of (post_of phase master) roles.Receiving) term own applied
@@ -54,7 +54,7 @@ module _ (v : View) (a : Granting v) where
   abbrev pub old : Handover
   old = v.handovers a.target.master a.row.tablet
 
-  -- the entry that carries what the source told
+  -- the entry that carries what the source handed over
   abbrev pub entry : Entry
   entry = carried_entry (v.handovers a.target.master a.row.tablet) a.grant
 
@@ -89,12 +89,12 @@ module _ (v : View) (a : Granting v) where
   pub waits : (q r : ℕ) → q ≡ master → r ≡ a.row.tablet → (v.handovers q r).role ≡ roles.Wanting a.target.from
   waits q r at its = ap (λ (n : ℕ). (v.handovers n r).role) at ∙ ap (λ (n : ℕ). (v.handovers master n).role) its ∙ a.may.may.waiting
 
-  -- what does not tell the old role and counter from the new ones is the same of each tablet
+  -- what does not distinguish the old role and counter from the new ones is the same of each tablet
   pub seen_same : {X : Type 0} (f : Handover → X) → ((h : Handover) → h.role ≡ roles.Wanting a.target.from → f (as_granted a.grant.floor h) ≡ f h) → (q r : ℕ) → f (now.handovers q r) ≡ f (v.handovers q r)
   seen_same {X} f same q r =
       of_handover (λ (h : Handover). f h ≡ f (v.handovers q r)) q r (λ at its. same (v.handovers q r) (waits q r at its)) (λ apart. refl)
 
-  -- so it is of what does not tell the two roles apart
+  -- so it is of what does not distinguish the two roles
   pub by_role : {X : Type 0} (f : Role → X) → f roles.Receiving ≡ f (roles.Wanting a.target.from) → (q r : ℕ) → f (now.handovers q r).role ≡ f (v.handovers q r).role
   by_role f same = seen_same (λ h. f h.role) (λ h is. same ∙ sym (ap f is))
 

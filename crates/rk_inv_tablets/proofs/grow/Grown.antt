@@ -1,5 +1,5 @@
--- The law of longer logs: where a living master's log has more behind it, all of one row's range, each other row has what it had; and so
--- has what stands beside rows. So a change by which a master appends entries is shown by what is to hold of their row.
+-- The law of longer logs: if a living master's log has more behind it, all of one row's range, each other row has what it had; and so
+-- has what is beside rows. So a change by which a master appends entries is shown by what is to hold of their row.
 use Rattle.std.proofs.Common.{◌≡◌, ◌<◌, ◌≤◌, ◌-◌, ◌⊎◌, ℕ, suc, max, true, false, List, [], ◌∷◌, ◌++◌, length, refl, sym, ap, ◌∙◌, subst}
 use Rattle.std.proofs.Common.{⊎_elim, arith, is_some, slice_get, drop, take, All, Contains, length-append, inl, inr, slice_index_or, IfSome}
 use Rattle.std.proofs.Common.{Some, Some}
@@ -39,7 +39,7 @@ pub record SpansAs (old new : Handover) : Type 0 where
 fits_as : (row : Row) (number : ℕ) (old new : Handover) → SpansAs old new → HandoverFits row number old → HandoverFits row number new
 fits_as row number old new spans fits = grind (arith, meets)
 
--- these are logs, and this is written, where a living master that has a row's tablet appended to its log what is of the row's range
+-- these are the logs, and this is written, once a living master that has a row's tablet appended to its log what is of the row's range
 pub record Growing (v : View) : Type 0 where
   pub row : Row
   pub master : ℕ
@@ -99,7 +99,7 @@ module _ (v : View) (grow : Growing v) where
   leaves : (x : Row) → Contains v.rows x → (x.tablet ≡ row.tablet → ⊥) → (q : ℕ) → LeavesRange x.range (v.written q) (written q)
   leaves x has apart q = leaves_more row x.range (far x has apart) (some x has) (v.written q) (written q) (grow.more q)
 
-  -- a dead master is not the one that appends
+  -- a dead master is not the master that appends
   pub dead_apart : (q : ℕ) → v.live q ≡ false → q ≡ master → ⊥
   dead_apart q dead at = false≢true (sym dead ∙ ap v.live at ∙ grow.lives)
 
@@ -173,7 +173,7 @@ module _ (v : View) (grow : Growing v) where
       let stored : ℕ → List ℕ = stored_of v.stored q READ_BACKUP in
       (grow.more q).stored range member.from (stored_count (v.logs q) stored) (stored_count (logs q) stored) (grow.stored q stored)
 
-  -- what they have tells no more than before
+  -- what they have records no more than before
   pub marked_more : (range : Range) (lineage : List Member) → SameFirst range lineage → MarkedFit v.logs v.written v.stored v.live range lineage → MarkedFit logs written v.stored v.live range lineage
   marked_more range [] same fit = tt
   marked_more range (only ∷ []) same fit = search (marked_dead, material_dead)
@@ -205,7 +205,7 @@ module _ (v : View) (grow : Growing v) where
     abbrev pub RebuildsIn : View → Type 0
     RebuildsIn w = IsRebuilderIn w.logs w.written v.stored x lineage to (truths v x) h c g e (v.records to)
 
-    -- it does so with the longer logs, where its own entries count as before
+    -- it does so with the longer logs, if its own entries count as before
     pub rebuilds_now : member_material written x.range (member_at to (own_place h.role)) ≡ member_material v.written x.range (member_at to (own_place h.role)) → Rebuilds (member_material v.written x.range (member_at to (own_place h.role))) (written to) → RebuildsIn grown
     rebuilds_now same was =
         let own : List Entry = member_material written x.range (member_at to (own_place h.role)) in
@@ -219,7 +219,7 @@ module _ (v : View) (grow : Growing v) where
         end needed)
         (rw (known_same, same) was)
 
-    -- as another master than the one that appends
+    -- as another master than the appending one
     pub rebuilds_other : (to ≡ master → ⊥) → RebuildsIn v → RebuildsIn grown
     rebuilds_other away was =
         let own : Member = member_at to (own_place h.role) in
@@ -275,7 +275,7 @@ module _ (v : View) (grow : Growing v) where
 
   -- ---- marks
 
-  -- a mark that fits a row does so still, where its piece stands last
+  -- a mark that fits a row does so still, if its piece is last
   pub fits_more : (x : Row) (q : ℕ) (mark : Mark) → LeavesRange x.range (v.written q) (written q) → MarkFits x q (v.handovers q x.tablet) (v.live q) (v.written q) mark → MarkFits x q (v.handovers q x.tablet) (v.live q) (written q) mark
   fits_more x q mark leaves fit = grind (arith, mark_same)
 
@@ -289,7 +289,7 @@ module _ (v : View) (grow : Growing v) where
 
   -- ---- records
 
-  -- records that had all items of a row have them still, where tablets have the same terms
+  -- records that had all items of a row have them still, if tablets have the same terms
   pub items_more : (x : Row) (handovers : ℕ → ℕ → Handover) → ((q : ℕ) → (handovers q x.tablet).term ≡ (v.handovers q x.tablet).term) → ((q : ℕ) → v.live q ≡ true → has_all_items (post_of x.phase q) (v.handovers q x.tablet) x.term ≡ true → HasItems x v.written (v.records q)) → (q : ℕ) → v.live q ≡ true → has_all_items (post_of x.phase q) (handovers q x.tablet) x.term ≡ true → HasItems x written (v.records q)
   items_more x handovers same was q lives all =
       IfSome_then (first_of (lineage_of x.phase))
@@ -396,7 +396,7 @@ module _ (v : View) (grow : Growing v) where
           λ (n : ℕ) (m : Message) (there : get v.wire n ≡ Some m). says_more x has m.from m.to m.body (was.says n m there),
         )
 
-  -- of each row holds what is said of rows, where it holds of this one and masters have of each other tablet what they had
+  -- what is said of rows holds of each row, if it holds of this one and masters have of each other tablet what they had
   pub rows_more : (now : View) (tablet : Tablet) → ((tablets : ℕ → Tablet) → alone grown tablets ≡ alone now tablets) → IsTurned v now master row.tablet tablet → SoundRow now row → All (SoundRow now) v.rows
   rows_more now tablet same_beside turned here =
       all_by _ v.rows
@@ -448,7 +448,7 @@ module _ (v : View) (grow : Growing v) where
         λ (q : ℕ). entries_more (IsOfWholeRows v.rows) q whole_rows (grow.sound.cover.wholes q),
       )
 
-  -- a call that waits does so still, where its tablet may have such
+  -- a call that waits does so still, if its tablet may have such
   pub waits_more : (handovers : ℕ → ℕ → Handover) → ((q r : ℕ) → may_have_staged (v.handovers q r).role ≡ true → may_have_staged (handovers q r).role ≡ true) → (q k : ℕ) (c : Call) → Waits v.rows (v.handovers q) (v.written q) q k c → Waits v.rows (handovers q) (written q) q k c
   waits_more handovers stages q k c was =
       let more = grow.more q in
@@ -496,7 +496,7 @@ module _ (v : View) (grow : Growing v) where
       (λ (away : q ≡ master → ⊥). rw (grow.others q away) was)
       (cases_eq q master)
 
-  -- beside rows all is sound, where each tablet spans what it did, and what masters have of ends and of records fits
+  -- beside rows all is sound, if each tablet spans what it did, and what masters have of ends and of records fits
   pub beside_more : (tablets : ℕ → ℕ → Tablet) → ((q r : ℕ) → SpansAs (v.handovers q r) (tablets q r).handover) → ((q r : ℕ) → v.live q ≡ true → All (λ end. IsKnown v.base v.journal end ⊎ IsStagedEnd v.rows (rests grown) q r (tablets q r).handover.term end) (ends_of (tablets q r).completions)) → ((q r : ℕ) → IsBareOf (tablets q r).handover (written q) (v.records q)) → SoundBeside (with_tablets grown tablets)
   beside_more tablets spans known bare =
       let was = grow.sound in

@@ -69,7 +69,7 @@ pub record HasMore (row : Row) (old new : Written) : Type 0 where
       → Extends (counting range (unmarked_from old.marks from (take few old.entries)))
       (counting range (unmarked_from new.marks from (take many new.entries)))
 
--- a call that waited waits with a log that has its entry, where its tablet may have such
+-- a call that waited waits with a log that has its entry, if its tablet may have such
 pub waits_by : (rows : List Row) (old new : ℕ → Handover) (was is : Written) (q k : ℕ) (c : Call) (wait : Waits rows old was q k c) → is.applied ≤ k → slice_get is.entries k ≡ Some wait.entry → is_marked is.marks k ≡ false → may_have_staged (new wait.row.tablet).role ≡ true → Waits rows new is q k c
 waits_by rows old new was is q k c wait behind stands unmarked may_stage = grind arith
 

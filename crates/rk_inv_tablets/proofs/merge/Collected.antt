@@ -28,11 +28,11 @@ module _ (written : ℕ → Written) (range : Range) (m : Member) where
   abbrev w : Written
   w = written m.master
 
-  -- an entry stands in what is applied of a member, or in its rest
+  -- an entry is in what is applied of a member, or in its rest
   abbrev StandsIn : Entry → Type 0
   StandsIn e = Contains (member_truth written range m) e ⊎ Contains (member_rest written range m) e
 
-  -- as one of its own does
+  -- as one of its own is
   main_stands : (e : Entry) → Contains (counting range (unmarked_from w.marks m.from w.entries)) e → StandsIn e
   main_stands e at =
       let kept = kept_stands (counts range) (unmarked_from w.marks m.from w.entries) e at in
@@ -46,7 +46,7 @@ module _ (written : ℕ → Written) (range : Range) (m : Member) where
       (record { place = is.place; behind = omega (arith, is.behind, waits); stands = is.stands; free = is.free })) kept.1))
       (cases_lt is.place w.applied)
 
-  -- and what it names does, where no Joined waits
+  -- and what it names is, if no Joined waits
   side_stands : joined_from range (max m.from w.applied) w.entries ≡ [] → (e : Entry) → Contains (side_material range m w) e → Contains (member_truth written range m) e
   side_stands none e at =
       let free : List Entry = unmarked_from w.marks m.from w.entries in
@@ -63,19 +63,19 @@ module _ (written : ℕ → Written) (range : Range) (m : Member) where
 abbrev pub all_material : (ℕ → Written) → Range → List Member → List Entry
 all_material written range lineage = flat_map (member_material written range) lineage
 
--- an end is told by what is applied of a lineage, or behind it
+-- an end is recorded by what is applied of a lineage, or behind it
 abbrev pub IsToldOf : Base → (ℕ → Written) → Range → List Member → Ended → Type 0
 IsToldOf base written range lineage end =
     Contains (told (lineage_truth base written range lineage)) end ⊎ Contains (told (lineage_rest written range lineage)) end
 
 module _ (base : Base) (written : ℕ → Written) (range : Range) where
-  -- an entry of a member's truth tells of the lineage's
+  -- the ends that an entry of a member's truth records are the lineage's
   of_truth : (lineage : List Member) (first : Member) (more : List Member) → lineage ≡ first ∷ more → (m : Member) → Contains lineage m → (e : Entry) → Contains (member_truth written range m) e → (end : Ended) → Contains (told_by e) end → Contains (told (lineage_truth base written range (first ∷ more))) end
   of_truth lineage first more is m has e at end its =
       flat_stands told_by (flat_map (member_truth written range) (first ∷ more)) e end
       (flat_stands (member_truth written range) (first ∷ more) m e (subst (λ (members : List Member). Contains members m) is has) at) its
 
-  -- so what all members have written tells nothing more
+  -- so what all members have written records nothing more
   pub material_told : (lineage : List Member) → AreApart lineage → FirstIsDone written range lineage → OnlyIsUnnamed written range lineage → NamedFit written range lineage → (end : Ended) → Contains (told (all_material written range lineage)) end → IsToldOf base written range lineage end
   material_told [] apart done unnamed names end at = absurd (none_stands end at)
   material_told (only ∷ []) apart done unnamed names end at =
@@ -138,14 +138,14 @@ module _ (base : Base) (written : ℕ → Written) (range : Range) where
 pub heir_place : (lineage : List Member) (q term own applied from : ℕ) → AreApart lineage → Holds (bond_of (rebuilder_post lineage q) (roles.Rebuilding from None)) term own applied → (is_member lineage q ≡ false) ⊎ Contains lineage (member_at q from)
 heir_place lineage q term own applied from apart = grind (arith, cond_both, bond_of, is_member, member_at, eqb-true, or_from)
 
--- ---- what marked pieces of dead members tell
+-- ---- what marked pieces of dead members record
 
--- each of these is told by all that members have written, where what dead ones have in marked pieces fits
+-- each of these is recorded by all that members have written, if what dead ones have in marked pieces fits
 module _ (v : View) (range : Range) (lineage : List Member) where
   abbrev pub materials : List Entry
   materials = all_material v.written range lineage
 
-  -- what counts of a member tells nothing more
+  -- what counts of a member records nothing more
   pub member_told : (m : Member) → Contains lineage m → All (IsToldBy materials) (member_material v.written range m)
   member_told m has = search (all_stand_told, member_material, flat_stands)
 
@@ -168,7 +168,7 @@ module _ (v : View) (range : Range) (lineage : List Member) where
       flat_stands (member_material v.written range) lineage m e has
       (Contains-append_right (counting range (unmarked_from w.marks m.from w.entries)) (side_material range m w) e at))
 
--- what tells no more than some tells no more than what tells these
+-- what records no more than some entries records no more than others that record these
 no_more : (these some others : List Entry) → TellNoMore these some → All (IsToldBy others) some → TellNoMore these others
 no_more these some others tells each =
     let through = all_told some others each in
@@ -178,7 +178,7 @@ no_more these some others tells each =
       floor = omega (arith, tells.floor, through.floor);
     }
 
--- so a marked piece of a dead member tells nothing more
+-- so a marked piece of a dead member records nothing more
 pub marks_told : (v : View) (range : Range) (lineage : List Member) → AreApart lineage → MarkedFit v.logs v.written v.stored v.live range lineage → (m : Member) → Contains lineage m → v.live m.master ≡ false → TellNoMore (member_marked v.written range m) (all_material v.written range lineage)
 marks_told v range [] apart fits m has dead = absurd (none_stands m has)
 marks_told v range (only ∷ []) apart fits m has dead =
@@ -305,6 +305,6 @@ module _ (v : View) (a : Merging v) where
       (rw (← same_lineage) (row_in v a.sound a.row a.has_row).unnamed)
       (rw (← same_lineage) (row_in v a.sound a.row a.has_row).named_items) end at)
 
-  -- so each end that the rebuild merges is told by the row's truth or its rest
+  -- so each end that the rebuild merges is recorded by the row's truth or its rest
   pub collected : All (IsToldIn v a.row) (ends_of (completions_from [] (merged v a).ends))
   collected = All-weaker _ _ row_told (ends_of (completions_from [] (merged v a).ends)) closing.ends

@@ -11,7 +11,7 @@ use Rattle.rk_inv_tablets.proofs.Words.{with_piece}
 use Rattle.rk_types.specs.declared.node.Node.TheVariants as nodes
 use Rattle.rk_message.specs.declared.message.Body.TheVariants as bodies
 
--- ---- one more entry, where the main segments then are few
+-- ---- one more entry, if the main segments then are few
 
 -- segments with more bytes are no fewer
 with_bytes_more : (segments : List (List ℕ)) (bytes : List ℕ) → length segments ≤ length (with_bytes segments bytes)
@@ -71,7 +71,7 @@ cut_less : (list more : List Entry) → length (cut list) ≤ length (cut (list 
 cut_less list [] = subst (λ (all : List Entry). length (cut list) ≤ length (cut all)) (sym (append-nil list)) (omega arith)
 cut_less list (entry ∷ more) = grind (arith, with_bytes_more, cut, spelled, cut_push, append_assoc, (cut_less (list ++ entry ∷ []) more))
 
--- so a log with more entries grew, where its main segments then are few
+-- so a log with more entries grew, if its main segments then are few
 pub grows_more : (log : Log) (list : List Entry) → length (cut (log.entries ++ list)) < FIRST_SIDE_SEGMENT → Grows log (with_entries log list)
 grows_more log [] few = grind (arith, append-nil, first_part_same, bytes_of, log.entries)
 grows_more log (entry ∷ list) few =
@@ -93,7 +93,7 @@ committed_more log (entry ∷ list) =
 abbrev pub AreStored : Log → List Entry → Type 0
 AreStored log list = All (λ entry. All (λ segment. is_side_stored log segment ≡ true) (segments_in entry)) list
 
--- a piece may stand at the end of a log: its main segments are few then, and the piece names only side segments that are stored
+-- a piece may be at the end of a log: its main segments are few then, and the piece names only side segments that are stored
 pub record MayStand (log : Log) (written : Written) (list : List Entry) (mark : Mark) : Type 0 where
   pub few : length (cut (log.entries ++ list)) < FIRST_SIDE_SEGMENT
   pub held : AreStored log list

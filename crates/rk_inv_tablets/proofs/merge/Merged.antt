@@ -28,7 +28,7 @@ use Rattle.rk_inv_base.proofs.views.Turned.{of_tablet}
 use Rattle.rk_inv_tablets.proofs.ready.Outside.{second_member, former_behind}
 use Rattle.rk_inv_tablets.proofs.merge.Collected.{collected}
 
--- What messages say of a row for which a rebuild merges: no report tells what its master had merged before, and all else looks as it did.
+-- What messages say of a row for which a rebuild merges: no report gives what its master had merged before, and all else looks as it did.
 
 module _ (v : View) (a : Merging v) where
   -- the view with the piece in the log, and with what the master keeps and merged
@@ -41,7 +41,7 @@ module _ (v : View) (a : Merging v) where
     merged = (now v a).merged;
   }
 
-  -- a master that merged has told no Rebuilt before
+  -- a master that merged has sent no Rebuilt before
   rebuilt_on : (q applied : ℕ) (report : Rebuilt) → RebuiltIn a.row.phase (v.handovers q a.row.tablet) (v.merged q a.row.tablet) applied a.row.term q report → RebuiltIn a.row.phase (v.handovers q a.row.tablet) ((now v a).merged q a.row.tablet) applied a.row.term q report
   rebuilt_on q applied report says = grind (arith, merged, now, gathers, role_is, put2_other, cases_eq)
 
@@ -94,7 +94,7 @@ module _ (v : View) (a : Merging v) where
             (drop_all (suc (closing v a)) (w.entries ++ piece v a) (omega (arith, size, length-append w.entries (piece v a))));
       }
 
-  -- the master rebuilds its row, with this of the row, where it has written this
+  -- the master rebuilds its row, with this of the row, if it has written this
   abbrev RebuildsHere : Written → Type 0
   RebuildsHere w =
       IsRebuilder a.row (rebuilt v a).0 a.master (truths v a.row) (mine v a) (NeededOf a.row v.written (rebuilt v a).0)

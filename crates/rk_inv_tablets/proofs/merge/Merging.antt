@@ -89,11 +89,11 @@ module _ (v : View) (a : Merging v) where
   pub turned : IsTurned v now a.master a.row.tablet tablet
   turned = grind (arith, put2_here, completions_from, put2_other)
 
-  -- what is applied stands in the log
+  -- what is applied is in the log
   pub within : (q : ℕ) → (v.written q).applied ≤ length (v.written q).entries
   within q = applied_within (v.logs q) (v.written q) _ (a.sound.logs.each q)
 
-  -- and so do the marked pieces
+  -- and so are the marked pieces
   pub marked : (q : ℕ) → All (λ mark. mark.past ≤ length (v.written q).entries) (v.written q).marks
   marked q = (a.sound.logs.each q).marked
 
@@ -122,7 +122,7 @@ module _ (v : View) (a : Merging v) where
   pub rebuilt_row : RowIsRebuilt a.row (Rebuilding rebuilt.0 a.master) (truths v a.row) v.logs v.written v.stored v.handovers v.completions v.gathers v.merged v.records v.live
   rebuilt_row = grind (arith, truths, gathers, rebuilt, row_was)
 
-  -- as one that rebuilds
+  -- and of the master that rebuilds it
   pub rebuilder : IsRebuilderIn v.logs v.written v.stored a.row rebuilt.0 a.master (truths v a.row) old (v.completions a.master a.row.tablet) (v.gathers a.master a.row.tablet) (v.merged a.master a.row.tablet) (v.records a.master)
   rebuilder = rebuilt_row.0 term_is
 
@@ -225,7 +225,7 @@ module _ (v : View) (a : Merging v) where
       })
       (λ apart. looks_same (v.handovers q r))
 
-  -- what does not tell the two roles apart is the same of each tablet
+  -- what does not distinguish the two roles is the same of each tablet
   pub by_role : {X : Type 0} (f : Role → X) → f (roles.Rebuilding gathers.0 (Some closing)) ≡ f (roles.Rebuilding gathers.0 None) → (q r : ℕ) → f (now.handovers q r).role ≡ f (v.handovers q r).role
   by_role f same q r =
       of_handover (λ (h : Handover). f h.role ≡ f (v.handovers q r).role) q r

@@ -47,13 +47,13 @@ unmarked_piece marks mark place (entry ∷ list) piece first past =
 
 -- ---- from a place on
 
--- what is behind a place of entries with more, where that is behind the first ones
+-- what is behind a place of entries with more, if that is behind the first ones
 pub drop_past : {X : Type 0} (from : ℕ) (xs ys : List X) → length xs ≤ from → (n : ℕ) × (from ≡ length xs + n) × (drop from (xs ++ ys) ≡ drop n ys)
 drop_past from xs ys past =
     let at : from ≡ length xs + (from - length xs) = omega (arith, past) in
     (from - length xs, at, ap (λ (n : ℕ). drop n (xs ++ ys)) at ∙ drop-append-add xs ys (from - length xs))
 
--- so of what stands from a place on nothing more is without a mark
+-- so of what is there from a place on nothing more is without a mark
 pub from_piece : (marks : List Mark) (mark : Mark) (from : ℕ) (list piece : List Entry) → length list ≡ mark.first → mark.first + length piece ≤ mark.past → unmarked_from (marks ++ mark ∷ []) from (list ++ piece) ≡ unmarked_from marks from list
 from_piece marks mark from list piece first past =
     ⊎_elim
@@ -78,7 +78,7 @@ from_piece marks mark from list piece first past =
 pub from_front : (marks : List Mark) (mark : Mark) (from : ℕ) (list : List Entry) → length list ≤ mark.first → unmarked_from (marks ++ mark ∷ []) from list ≡ unmarked_from marks from list
 from_front marks mark from list within = grind (arith, length-drop, unmarked_before, unmarked, drop_all, cases_lt)
 
--- the first ones of entries with more, where that are all of the first part and some of the other
+-- the first ones of entries with more, if these are all of the first part and some of the other
 pub take_past : {X : Type 0} (n : ℕ) (xs ys : List X) → length xs ≤ n → (k : ℕ) × (take n (xs ++ ys) ≡ xs ++ take k ys)
 take_past n xs ys past =
     let at : n ≡ length xs + (n - length xs) = omega (arith, past) in
@@ -102,7 +102,7 @@ from_taken marks mark from n list piece first past =
 
 -- ---- marked entries
 
--- where nothing is marked from a place on, no entry there is
+-- if nothing is marked from a place on, no entry there is
 pub marked_behind : (marks : List Mark) (place : ℕ) (list : List Entry) → ((k : ℕ) → place ≤ k → is_marked marks k ≡ false) → marked_entries marks place list ≡ []
 marked_behind marks place [] none = refl
 marked_behind marks place (entry ∷ list) none =
@@ -122,7 +122,7 @@ marked_from_more marks from list more none =
 
 -- ---- what marked entries do not count, all do not
 
--- nothing is lost with the marked entries, where none of them counts or names a segment
+-- nothing is lost with the marked entries, if none of them counts or names a segment
 pub free_counting : (range : Range) (marks : List Mark) (place : ℕ) (list : List Entry) → ((k : ℕ) (e : Entry) → slice_get list k ≡ Some e → is_marked marks (place + k) ≡ true → counts range e ≡ false) → counting range list ≡ counting range (unmarked marks place list)
 free_counting range marks place [] none = refl
 free_counting range marks place (entry ∷ list) none =
@@ -160,7 +160,7 @@ none_filtered p t weaker (x ∷ xs) none =
 
 -- ---- lists with more at their end
 
--- where nothing passes behind a place, nor of what is appended, nothing does
+-- if nothing passes behind a place, nor of what is appended, nothing does
 pub none_more : {X : Type 0} (p : X → Bool) (from : ℕ) (xs ys : List X) → list_any p (drop from xs) ≡ false → list_any p ys ≡ false → list_any p (drop from (xs ++ ys)) ≡ false
 none_more p zero [] ys none more = more
 none_more p zero (x ∷ xs) ys none more =
@@ -174,7 +174,7 @@ none_more p (suc from) [] ys none more = none_dropped p (suc from) ys more
     none_dropped p (suc from) (y ∷ ys) none = none_dropped p from ys (or_parts (p y) (list_any p ys) none).1
 none_more p (suc from) (x ∷ xs) ys none more = none_more p from xs ys none more
 
--- where none of what is appended passes, what passes behind a place is what did
+-- if none of what is appended passes, what passes behind a place is what did
 pub kept_more : {X : Type 0} (p : X → Bool) (from : ℕ) (xs ys : List X) → list_any p ys ≡ false → filter p (drop from (xs ++ ys)) ≡ filter p (drop from xs)
 kept_more p zero [] ys none = none_filtered p p (λ x fails. fails) ys none
 kept_more {X} p zero (x ∷ xs) ys none = ap (λ (rest : List X). cond (p x) (x ∷ rest) rest) (kept_more p zero xs ys none)

@@ -12,7 +12,7 @@ use Rattle.rk_inv_tablets.proofs.merge.Heirs.{gathers_from}
 use Rattle.rk_inv_tablets.proofs.merge.Merged.{view_merged}
 use Rattle.rk_inv_tablets.proofs.crash.MarkedPieces.{row_there}
 
--- entries that are appended one after the other stand at the end of the log
+-- entries that are appended one after the other are at the end of the log
 pub with_all_is : (master : Master) (list : List Entry) → with_all master list ≡ record master { log = with_entries master.log list }
 with_all_is master [] = λ i. record master { log = record master.log { entries = sym (append-nil master.log.entries) i } }
 with_all_is master (entry ∷ list) =
@@ -34,7 +34,7 @@ module _ (w : World) (master tablet : ℕ) where
   abbrev last : Entry
   last = closing_carried (tablet_in w master tablet).handover (merge_in (view w) master tablet)
 
-  -- the master and the mark, once the copies stand in the log of this one
+  -- the master and the mark, once the copies are in the log of this one
   abbrev changed_to : Master → Master
   changed_to grown =
       with_tablet (with_appended grown last) tablet
@@ -64,7 +64,7 @@ module _ (w : World) (master tablet : ℕ) where
   abbrev ledger : Ledger
   ledger = with_marks w.ledger (mark_of grown ∷ [])
 
-  -- so many entries stand before the last one
+  -- so many entries are before the last one
   count : length grown.log.entries ≡ length before.log.entries + length made.copies
   count = grind (arith, length-append, length-map)
 

@@ -41,7 +41,7 @@ own_none (member ∷ more) master outside = go (member.master == master) (own_no
     go true later outside = absurd (cc)
     go false later outside = later outside
 
--- ---- a view where a master begins to rebuild a row
+-- ---- a view in which a master begins to rebuild a row
 
 -- the order of a row that a master rebuilds
 abbrev pub order_of : Row → List Member → Rebuild
@@ -202,7 +202,7 @@ module _ (v : View) (row : Row) (master : ℕ) (lineage : List Member) (sound : 
 pub view_begun : (v : View) (row : Row) (master : ℕ) (rebuild : Rebuild) → SoundView v → MayBegin v row master rebuild → SoundView (begun v master rebuild)
 view_begun v row master rebuild sound may = search (view_begins, rebuild.lineage, may.tablet_is, may.term_is, may.range_is)
 
--- ---- a world where a master begins to rebuild a tablet
+-- ---- a world in which a master begins to rebuild a tablet
 
 from_is : (w : World) (master : ℕ) (own : Option Member) → begun_from (master_at w master) own ≡ begins_from (view w) master own
 from_is w master (Some member) = refl
@@ -223,11 +223,11 @@ module _ (w : World) (master : ℕ) (rebuild : Rebuild) where
   abbrev left_alone : Option Member → Master
   left_alone member = with_others_given_up (base member) asked rebuild.range
 
-  -- the tablet that it begins to rebuild, where this is its number
+  -- the tablet that it begins to rebuild, if this is its number
   abbrev begins_as : ℕ → Tablet
   begins_as number = as_begun number rebuild (begins_from (view w) master (own_member rebuild.lineage number)) was
 
-  -- the master that begins, where this is its number
+  -- the master that begins, if this is its number
   abbrev begins_by_number : ℕ → Master
   begins_by_number number = with_tablet (left_alone (own_member rebuild.lineage number)) asked (begins_as number)
 

@@ -122,7 +122,7 @@ module _ (v : View) (row : Row) (master : ℕ) (sound : SoundView v) (has : Cont
   own_range member =
       (row_in v sound row has).ranged master (inl lives) (ap (λ (members : List Member). is_member members master) lineage_is ∙ member)
 
-  -- one that waits has nothing
+  -- a master that waits has nothing
   waits_takes : (from place : ℕ) → is_member lineage master ≡ true → old.role ≡ roles.Wanting from → from ≡ place → IsTakenUp v row master place (v.records master)
   waits_takes from place member role same =
       let bare : IsBare old.range from w (v.records master) =
@@ -151,7 +151,7 @@ module _ (v : View) (row : Row) (master : ℕ) (sound : SoundView v) (has : Cont
     abbrev copied : List Held
     copied = copied_items old.role pulling w.sides
 
-    -- a Joined of the range stands among those from its place on
+    -- a Joined of the range is among those from its place on
     among_joined : (j : Entry) → Contains (drop last.from w.entries) j → is_joined_in range j ≡ true → (others : List Entry) → joined_from range last.from w.entries ≡ others → Contains others j
     among_joined j stands joins others are = rw (← are) (stands_kept (is_joined_in range) (drop last.from w.entries) j stands joins)
 
@@ -162,7 +162,7 @@ module _ (v : View) (row : Row) (master : ℕ) (sound : SoundView v) (has : Cont
       joins : is_joined_in range joined ≡ true
       names : Contains (named_by range joined) n
 
-    -- is one that it sealed, and it pulls no more
+    -- is a segment that it sealed, and it pulls no more
     sealed_is : (role : Role) → is_granted role ≡ true → HasClosing (joined_place role) (closing_joined old pulling.sealed) range last.from w.entries → (n : ℕ) → IsNamed n → Contains pulling.sealed n × (is_receiving role ≡ false)
     sealed_is (roles.Joining (Some place)) granted closing n named =
         let only : Contains (closing_joined old pulling.sealed ∷ []) named.joined =

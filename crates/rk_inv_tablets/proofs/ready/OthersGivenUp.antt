@@ -18,7 +18,7 @@ pub record MayTakeOrder (v : View) (master number term : ℕ) (range : Range) : 
       (other : Row) → Contains v.rows other → other.tablet ≢ number → meets other.range range ≡ true
       → is_member (lineage_of other.phase) master ≡ true → ⊥
 
--- of two tests that do not both pass, the second fails where the first passes
+-- of two tests that do not both pass, the second fails if the first passes
 second_fails : (a b : Bool) → a ≡ true → (a && b) ≡ false → b ≡ false
 second_fails true b first both = both
 second_fails false b first both = absurd (cc)
@@ -38,7 +38,7 @@ module _ (v : View) (master number term : ℕ) (range : Range) (sound : SoundVie
   -- ---- another row whose range meets the order's
 
   module _ (x : Row) (has : Contains v.rows x) (other : x.tablet ≡ number → ⊥) where
-    -- its term is above that of the master, where the tablet's range meets the order's too
+    -- its term is above that of the master, if the tablet's range meets the order's too
     pub row_above : meets (v.handovers master x.tablet).range range ≡ true → (v.handovers master x.tablet).term < x.term
     row_above met =
         let h : Handover = v.handovers master x.tablet in
@@ -132,7 +132,7 @@ module _ (v : View) (master number term : ℕ) (range : Range) (sound : SoundVie
       inr (gone_yields records r other both.1))
       (λ stays. inl (record { handover_is = refl; pulling_is = refl; gather_is = refl; merged_is = refl }))
 
-  -- one that is not absent then is as it was, and does not meet the order's range
+  -- a tablet that is not absent then is as it was, and does not meet the order's range
   other_there : (r : ℕ) → (r ≡ number → ⊥) → is_absent (others r).handover.role ≡ false → ((others r).handover ≡ v.handovers master r) × (meets (v.handovers master r).range range ≡ false)
   other_there r other = grind (arith, tablet_seen, cond_both, meets, given_up, is_absent, second_fails, ne_eqb)
 

@@ -56,7 +56,7 @@ outside_idle post role term own applied outside below holds = grind arith
 pub outside_absent : (post : Post) (role : Role) (term own applied : ℕ) → IsOutside post → own < term → Holds (bond_of post role) term own applied → Holds (bond_of post roles.Absent) term own applied
 outside_absent post role term own applied outside below holds = grind arith
 
--- and wait for it, at the row's term only where the row asks it to
+-- and wait for it, at the row's term only if the row asks it to
 pub outside_wants : (post : Post) (role : Role) (from term own new applied : ℕ) → IsOutside post → own < term → new ≤ term → (new ≡ term → post ≡ InvitedTarget) → Holds (bond_of post role) term own applied → Holds (bond_of post (roles.Wanting from)) term new applied
 outside_wants post role from term own new applied outside below within asked holds = grind (arith, cases_eq)
 

@@ -40,7 +40,7 @@ counted_bears range _ item counted at = absurd (omega (arith, at.1))
 held_counts : (range : Range) (entry : Entry) (item : Held) → is_in range item ≡ true → Contains (items_in entry) item → counts range entry ≡ true
 held_counts range entry item inside at = grind (arith, is_in, one_stands)
 
--- one that names a segment is a Joined of the range
+-- an entry that names a segment is a Joined of the range
 pub names_joined : (range : Range) (entry : Entry) (n : ℕ) → Contains (named_by range entry) n → is_joined_in range entry ≡ true
 names_joined range entry n at = grind (arith, meets)
 
@@ -67,7 +67,7 @@ module _ (range : Range) (side : ℕ → List Entry) (more less : List Entry) wh
       let found = flat_from side (named range more) e at in
       flat_stands side (named range less) found.0 e (named_into into found.0 found.1) found.2
 
-  -- and the items of what counts, where the others have each entry that bears them
+  -- and the items of what counts, if the others have each entry that bears them
   pub material_into : ((e : Entry) → Contains more e → bears range e ≡ true → Contains less e) → (item : Held) → Contains (items_of (material_of range side more)) item → Contains (items_of (material_of range side less)) item
   material_into into item at =
       let found = flat_from items_in (material_of range side more) item at in
@@ -103,14 +103,14 @@ stands_at [] k x at = absurd (cc at)
 stands_at (y ∷ xs) zero x at = let same : y ≡ x = cc at in (0, omega arith, same)
 stands_at (y ∷ xs) (suc k) x at = behind_first y xs x (stands_at xs k x at)
 
--- what stands among the first ones stands there, before their end
+-- what is among the first ones is at its place in all, before their end
 pub front_at : {X : Type 0} (xs : List X) (n k : ℕ) (x : X) → slice_get (take n xs) k ≡ Some x → (k < n) × (slice_get xs k ≡ Some x)
 front_at xs n k x at = (taken_within n xs k x at, taken_from n xs k x at)
 
 pub at_front : {X : Type 0} (xs : List X) (n k : ℕ) (x : X) → k < n → slice_get xs k ≡ Some x → slice_get (take n xs) k ≡ Some x
 at_front xs n k x less at = taken_at n xs k x less at
 
--- an entry that bears no mark stands among those, and each of those does so
+-- an entry that bears no mark is among the unmarked ones, and each of these bears none
 pub unmarked_stands : (marks : List Mark) (place : ℕ) (list : List Entry) (k : ℕ) (e : Entry) → slice_get list k ≡ Some e → is_marked marks (place + k) ≡ false → Contains (unmarked marks place list) e
 unmarked_stands marks place list k e at bare = stands_free marks place k list e at bare
 

@@ -41,7 +41,7 @@ module _ (v : View) (row : Row) (master : ℕ) (prepare : Prepare) (sound : Soun
   pub greater : old.term < term
   greater = subst (λ (n : ℕ). (v.handovers master n).term < term) (sym may.tablet_is) may.greater
 
-  -- a row of the tablet's number is the one that the order is for
+  -- a row of the tablet's number is the row that the order is for
   same_row : (x : Row) → Contains v.rows x → x.tablet ≡ number → x ≡ row
   same_row x has its = same_number v.rows x row sound.rows.apart has may.has_row (its ∙ may.tablet_is)
 
@@ -140,7 +140,7 @@ module _ (v : View) (row : Row) (master : ℕ) (prepare : Prepare) (sound : Soun
         apart = apart v master number term range sound order own refl;
       })
 
--- ---- a world where a master makes ready
+-- ---- a world in which a master makes ready
 
 module _ (w : World) (master : ℕ) (prepare : Prepare) where
   abbrev asked : ℕ

@@ -13,7 +13,7 @@ use Rattle.rk_inv_tablets.proofs.crash.MarkedPieces.{mark_of}
 use Rattle.rk_inv_tablets.proofs.crash.PieceRows.{row_of_mark}
 use Rattle.rk_inv_tablets.proofs.crash.Unmarked.{free_place, joined_applied}
 
--- records of a master are those with which it may begin to rebuild a row, where its own entries count from this place
+-- records of a master are those with which it may begin to rebuild a row, if its own entries count from this place
 pub record IsTakenUp (v : View) (row : Row) (master from : ℕ) (records : List Held) : Type 0 where
   pub found :
       (item : Held) → Contains (items_of (applied_from row.range from (v.written master))) item → IsFound records item
@@ -80,7 +80,7 @@ module _ (v : View) (row : Row) (master : ℕ) (sound : SoundView v) (has : Cont
     abbrev pub sides : ℕ → List Entry
     sides = side_entries w.sides
 
-    -- what is applied bears no mark where it bears an item
+    -- what is applied bears no mark if it bears an item
     applied_bare : (e : Entry) → Contains (drop from (applied_entries w)) e → bears row.range e ≡ true → Contains (unmarked_from w.marks from (applied_entries w)) e
     applied_bare e stands bearing =
         let found = at_place (drop from (applied_entries w)) e stands in
@@ -94,14 +94,14 @@ module _ (v : View) (row : Row) (master : ℕ) (sound : SoundView v) (has : Cont
     applied_counts item =
         material_into row.range sides (drop from (applied_entries w)) (unmarked_from w.marks from (applied_entries w)) applied_bare item
 
-    -- an unmarked entry stands behind the place
+    -- an unmarked entry is behind the place
     pub unmarked_behind : (e : Entry) → Contains (unmarked_from w.marks from w.entries) e → Contains (drop from w.entries) e
     unmarked_behind e stands =
         let found = free_place w.marks from w.entries e stands in
         let behind = behind_at w.entries from found.place e found.behind found.stands in
         stands_at (drop from w.entries) behind.0 e behind.1
 
-    -- and what is applied does
+    -- and so is what is applied
     pub applied_behind : (e : Entry) → Contains (drop from (applied_entries w)) e → Contains (drop from w.entries) e
     applied_behind e stands =
         let found = at_place (drop from (applied_entries w)) e stands in
@@ -117,7 +117,7 @@ module _ (v : View) (row : Row) (master : ℕ) (sound : SoundView v) (has : Cont
         let kept = kept_stands (is_in row.range) (items_of (flat_map sides (named row.range (unmarked_from w.marks from w.entries)))) item at in
         (kept.1, kept.0)
 
-    -- where no unmarked Joined of the range stands behind what is applied, such an item is of what counts of that
+    -- if no unmarked Joined of the range is behind what is applied, such an item is of what counts of that
     pub named_applied : joined_from row.range (max from w.applied) w.entries ≡ [] → (item : Held) → Contains (named_items row.range from w) item → Contains (items_of (log_material row.range w.marks w.sides from (applied_entries w))) item
     named_applied none item at =
         let mine = named_of item at in
@@ -128,7 +128,7 @@ module _ (v : View) (row : Row) (master : ℕ) (sound : SoundView v) (has : Cont
         (flat_stands items_in (flat_map sides (named row.range done)) found.0 item
         (sides_into row.range sides all done (joined_applied row.range w from none) found.0 found.1) found.2)
 
-    -- where nothing of the range stands behind the place, a master that has no record of it may begin
+    -- if nothing of the range is behind the place, a master that has no record of it may begin
     pub bare_takes : (records : List Held) → IsBare row.range from w records → IsTakenUp v row master from records
     bare_takes records bare = record {
       found = λ item at.

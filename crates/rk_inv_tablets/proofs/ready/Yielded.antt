@@ -92,11 +92,11 @@ module _ (v : View) (a : Yielding v) where
   members x has (source ∷ target ∷ []) is fit = targets_on x has source target is (λ at. fit) refl
   members x has _ is fit = tt
 
-  -- where a member begins to rebuild a row, no other one has the row's term
+  -- if a member begins to rebuild a row, no other one has the row's term
   begins_alone : (x : Row) → Contains v.rows x → (q r : ℕ) → (r ≡ q → ⊥) → is_member (lineage_of x.phase) r ≡ true → Begins x q (now.handovers q x.tablet) → (now.handovers r x.tablet).term ≡ x.term → ⊥
   begins_alone x has q r away member begins term = grind (arith, former_behind, row_in, is_member, lineage_of, member_keeps)
 
-  -- what a source told is what it keeps, while source and target have one term
+  -- what a source handed over is what it keeps, while source and target have one term
   pub told : (x : Row) → Contains v.rows x → (lineage : List Member) → lineage_of x.phase ≡ lineage → AreApart lineage → HandedFits x v.handovers v.completions v.handed lineage → HandedFits x now.handovers v.completions v.handed lineage
   told x has (source ∷ target ∷ []) is apart fit = λ term.
       let s : Handover = now.handovers source.master x.tablet in

@@ -1,4 +1,4 @@
--- The part Messages where a master yields: what a message says of a row it says still.
+-- The part Messages when a master yields: what a message says of a row it says still.
 use Rattle.std.proofs.Common.{◌≡◌, ℕ, Bool, List, [], ◌∷◌, Option, None, refl, arith, Contains}
 use Rattle.rk_inv_base.proofs.Words.{Ended, false≢true, get, Member, Node, Completions, Handover, lineage_of, Phase, Moving, Opening, Rebuilding}
 use Rattle.rk_inv_base.proofs.Words.{Row, Grant, Tenure, Transfer, Body, Rebuilt, Handed, is_member, AfterMove, GrantAgrees, IsOfTarget}

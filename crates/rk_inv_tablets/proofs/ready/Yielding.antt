@@ -45,7 +45,7 @@ pub record YieldsBeside (row : Row) (master applied : ℕ) (old new : Handover) 
   pub fits : RoleFits row master new applied
   pub kind : StandsBy row master new ⊎ Begins row master new
 
--- a tablet of a master is yielded, where these records are left
+-- a tablet of a master is yielded, if these records are left
 pub record Yields (v : View) (master : ℕ) (records : List Held) (number : ℕ) (new : Tablet) : Type 0 where
   pub beside :
       (row : Row) → Contains v.rows row → row.tablet ≡ number
@@ -183,7 +183,7 @@ module _ (v : View) (a : Yielding v) where
   pub of_lineage : (x : Row) (lineage : List Member) → lineage_of x.phase ≡ lineage → (q : ℕ) → is_member lineage q ≡ true → is_member (lineage_of x.phase) q ≡ true
   of_lineage x lineage is q member = ap (λ (list : List Member). is_member list q) is ∙ member
 
-  -- so where it waits for a grant it did before
+  -- so if it waits for a grant, it did before
   waited : (x : Row) → Contains v.rows x → (q : ℕ) → is_member (lineage_of x.phase) q ≡ true → is_wanting (now.handovers q x.tablet).role ≡ true → is_wanting (v.handovers q x.tablet).role ≡ true
   waited x has q member waits = grind (arith, is_wanting, both_ways, member_keeps)
 
@@ -224,6 +224,6 @@ module _ (v : View) (a : Yielding v) where
   pub settled : (x : Row) → Contains v.rows x → IsBeside x → is_idle (new x).role ≡ true → list_any (touches x.range) (drop (v.written a.master).applied (v.written a.master).entries) ≡ false
   settled x has beside idles = grind (arith, row_in, idled, both_ways, is_idle)
 
-  -- where something may be staged, it may be still
+  -- if something may be staged, it may be still
   pub stages : (x : Row) → Contains v.rows x → IsBeside x → may_have_staged (old x).role ≡ true → may_have_staged (new x).role ≡ true
   stages x has beside staged = grind (arith, idled, may_have_staged)

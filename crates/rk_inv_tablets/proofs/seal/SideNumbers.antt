@@ -10,7 +10,7 @@ use Rattle.rk_inv_base.proofs.views.Among.{unmarked_all}
 use Rattle.rk_inv_tablets.proofs.Words.{numbered_past, with_side_items, all_flat, fold_keeps_all}
 use Rattle.rk_entry.specs.declared.entry.Entry.TheVariants as entries
 
--- these numbers are below that of the next side segment, where there are so many
+-- these numbers are below that of the next side segment, if there are so many
 abbrev pub AreBelow : ℕ → List ℕ → Type 0
 AreBelow count numbers = All (λ number. number < FIRST_SIDE_SEGMENT + count) numbers
 

@@ -18,7 +18,7 @@ use Rattle.rk_types.specs.declared.node.Node.TheVariants as nodes
 use Rattle.rk_message.specs.declared.message.Body.TheVariants as bodies
 use Rattle.rk_inv_tablets.proofs.grow.MoreLog.{waits_by, rest_by}
 
--- side segments that a target has sealed have what they had, where each master has these more
+-- side segments that a target has sealed have what they had, if each master has these more
 abbrev pub AreKept : View → (ℕ → List (List Held)) → Type 0
 AreKept v lists =
     (q tablet : ℕ)

@@ -57,7 +57,7 @@ module _ (log : Log) (lists : List (List Held)) where
   front_of None (Some segment) another = first_part_same segment.bytes segment.bytes refl
   front_of None None another = record { more = bytes_in another; parts = refl }
 
-  -- a number that is not that of a main segment is not below one that is
+  -- a number that is no main segment's is not below a number that is
   none_main : (earlier later : ℕ) → 1 ≤ earlier → earlier < later → main earlier ≡ None → main later ≡ None
   none_main earlier later some before none =
       ⊎_elim

@@ -27,7 +27,7 @@ use Rattle.rk_transfer.specs.declared.role.Role.TheVariants as roles
 
 -- ---- roles
 
--- a post that takes a target that pulls takes one that joins
+-- a post that takes a target that pulls takes a target that joins
 pub fits_joining : (post : Post) (term own applied : ℕ) → Holds (bond_of post roles.Receiving) term own applied → Holds (bond_of post (roles.Joining None)) term own applied
 fits_joining post term own applied holds = grind arith
 
@@ -231,7 +231,7 @@ module _ (v : View) (row : Row) (master : ℕ) (numbers : List ℕ) (sound : Sou
             (was.says n m there),
       )
 
-  -- the tablet is sound as one that joins
+  -- the tablet is sound as that of a target that joins
   tablet : SoundTablet v master number joined
   tablet =
       let its = tablet_of v sound master number in

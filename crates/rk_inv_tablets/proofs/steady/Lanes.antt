@@ -15,9 +15,9 @@ use Rattle.rk_inv_tablets.proofs.steady.Turns.{turn_seals}
 use Rattle.rk_inv_tablets.proofs.steady.Walks.{IsKept, Part, accept_keeps, ask_keeps, event_keeps}
 use Rattle.rk_inv_tablets.specs.steady.Steady.{AllSealedThere}
 
--- ---- what backups tell
+-- ---- what backups report
 
--- each of so many backups tells what it stores
+-- each of so many backups reports what it stores
 abbrev Tell : Part
 Tell masters count backups = (backup : ℕ) → (nat_le 1 backup && nat_le backup count) ≡ true → is_some (get backups backup) ≡ true
 

@@ -69,7 +69,7 @@ module _ (count : ℕ) where
 
   -- ---- tests
 
-  -- what is made where a test holds, and what where it does not
+  -- what is made if a test holds, and what if it does not
   pub either_seals : (test : Bool) (one other : Master) → Seals count one → Seals count other → Seals count (cond test one other)
   either_seals true one other first second = first
   either_seals false one other first second = second
@@ -84,7 +84,7 @@ module _ (count : ℕ) where
 abbrev pub IsSealedAt : Master → Type 0
 IsSealedAt master = (tablet : ℕ) → IsSealedUnder (length master.log.sides) (tablet_at master tablet)
 
--- so it is with each pair of its map, where that is in order
+-- so it is with each pair of its map, if that is in order
 pub there_from_each : (master : Master) → IsInOrder master.tablets → IsSealedAt master → SealsThere master
 there_from_each master order at =
     All_pairs (λ (q : ℕ) (t : Tablet). IsSealedUnder (length master.log.sides) t) master.tablets order

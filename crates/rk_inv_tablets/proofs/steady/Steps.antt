@@ -24,7 +24,7 @@ use Rattle.rk_world.specs.Rebuilds.{merged_at}
 use Rattle.rk_inv_tablets.proofs.steady.Handovers.{others_given_up_seal, close_seals, grant_seals, own_seals, prepare_seals, release_seals}
 use Rattle.rk_message.specs.declared.message.Body.TheVariants as bodies
 
--- What targets have sealed is there where a target takes what it pulled, and also where it seals its side lists.
+-- What targets have sealed is there when a target takes what it pulled, and also when it seals its side lists.
 
 module _ (count : ℕ) where
   -- ---- a source
@@ -111,7 +111,7 @@ module _ (count : ℕ) (master : Master) (seals : Seals count master) where
   pub pulled_there : (pulled : Pulled) → SealsThere (pulled_taken master pulled).master
   pulled_there pulled = grind (arith, tablet_at, is_receiving_at, is_token, changed, batch_taken, batch_there, seals_there)
 
--- What targets have sealed stays there where a master rebuilds a tablet.
+-- What targets have sealed stays there when a master rebuilds a tablet.
 
 module _ (count : ℕ) where
   -- ---- merging
@@ -167,7 +167,7 @@ module _ (count : ℕ) where
   copy_seals master copy seals =
       search (either_works, goes_on_seals, seals_with_tablet, sealed_at)
 
--- What targets have sealed stays there where a master applies entries, and where what waited goes on.
+-- What targets have sealed stays there when a master applies entries, and when what waited goes on.
 
 module _ (count : ℕ) where
   -- ---- entries
@@ -201,7 +201,7 @@ module _ (count : ℕ) where
       (λ r is. seals_with_tablet count now entry.0 (with_handover entry.1 (record entry.1.handover { role = r })) kept sealed)
       (λ joins r is. seals_with_tablet count now entry.0 (with_handover entry.1 (record entry.1.handover { role = r })) kept sealed))
 
-  -- ---- what a backup told
+  -- ---- what a backup reported
 
   told_seals : (master : Master) (backup : ℕ) (stored : Stored) → Seals count master → Seals count (told_length master backup stored).master
   told_seals master backup stored seals =
@@ -211,7 +211,7 @@ module _ (count : ℕ) where
   stored_seals master backup stored None seals = told_seals master backup stored seals
   stored_seals master backup stored (Some beyond) seals = seals
 
--- What targets have sealed stays there where a master takes a request.
+-- What targets have sealed stays there when a master takes a request.
 
 module _ (count : ℕ) (master : Master) (seals : Seals count master) where
   chosen_seals : (asked : ℕ) (call : Call) (choice : Choice) → Seals count (chosen master asked call choice).master

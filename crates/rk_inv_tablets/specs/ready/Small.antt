@@ -1,4 +1,4 @@
--- Small changes by which a master takes a role of a tablet anew, at a greater term: each other tablet that it has in that range is given up.
+-- Small changes by which a master takes a role of a tablet anew, at a greater term: each other tablet that it has in the range is given up.
 use Rattle.std.specs.Prelude.{ℕ, ◌==◌, ◌&&◌, not, List, [], Option, Some, None, length, if◌then◌else◌}
 use Rattle.rk_types.specs.Range.{meets}
 use Rattle.rk_types.specs.declared.held.Held.{Held}
@@ -18,7 +18,7 @@ use Rattle.rk_world.specs.World.{World, master_at, with_master}
 use Rattle.rk_sound.specs.Small.{put}
 use Rattle.rk_sound.specs.View.{View, tablet_seen}
 
--- what becomes of the tablets of a master where each one but this is given up whose range meets the range
+-- what becomes of the tablets of a master when each one but this is given up whose range meets the range
 abbrev pub others_given_up : (ℕ → Tablet) → ℕ → Range → ℕ → Tablet
 others_given_up tablets number range other =
     if not (other == number) && meets (tablets other).handover.range range then given_up (tablets other) else tablets other
@@ -33,7 +33,7 @@ tablets_taken v master records tablets = record v {
   merged = put v.merged master (λ tablet. (tablets tablet).merged_ends);
 }
 
--- a handover of a tablet that is to be granted at a term, where the master's own entries count from a place on
+-- a handover of a tablet that is to be granted at a term, with the master's own entries counted from a place on
 abbrev pub as_wanting : ℕ → Range → ℕ → Handover → Handover
 as_wanting term range from handover =
     record handover { role = roles.Wanting from; term = term; range = range }
@@ -67,7 +67,7 @@ abbrev pub items_left : List Held → Range → Option Member → List Held
 items_left records range (Some own) = records
 items_left records range None = without range records
 
--- a handover of a tablet that is rebuilt at a term, where the master's own entries count from a place on
+-- a handover of a tablet that is rebuilt at a term, with the master's own entries counted from a place on
 abbrev pub as_rebuilding : ℕ → Range → ℕ → Handover → Handover
 as_rebuilding term range from handover =
     record handover { role = roles.Rebuilding from None; term = term; range = range }

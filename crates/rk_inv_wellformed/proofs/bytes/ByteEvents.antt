@@ -88,7 +88,7 @@ pub bytes_rise : (w : World) (event : Event) (called : Called) → MayHappen w e
 bytes_rise w event called may none formed room =
     grind (arith, added_bytes, delivered_bytes, turned_bytes, split_logs)
 
--- so they fit after one that brings few
+-- so they fit after an event that brings few
 pub bytes_event : (w : World) (event : Event) (called : Called) → MayHappen w event → refusal w event ≡ None → brought w event ≤ MOST_BROUGHT
     → IsWellFormed w → HasRoom w → bytes_of_logs (happened w event called).world < MOST_BYTES
 bytes_event w event called may none few formed room =

@@ -41,7 +41,7 @@ number_are : (w : Width) (n : ℕ) → AreBytes (number_bytes w n)
 unfolding number_bytes
 number_are w n = digits_bytes (byte_len w) n
 
--- where no place is found none passes
+-- if no place is found, none passes
 none_passes : (p : ℕ → Bool) (xs : List ℕ) → (position_or_len p xs < length xs → ⊥) → All (λ x. p x ≡ false) xs
 none_passes p [] none = All-nil _
 none_passes p (x ∷ xs) none = cond_both (not (p x)) (1 + position_or_len p xs) 0
@@ -126,7 +126,7 @@ pub spelled_cons : (entry : Entry) (list : List Entry) → spelled_all (entry �
 unfolding spelled_all
 spelled_cons entry list = refl
 
--- an entry that is read stands at the front
+-- an entry that is read is at the front
 record IsRead (front : List ℕ) (entry : Entry) (after : List ℕ) : Type 0 where
   stands : front ≡ spelled entry ++ after
   lawful : IsLawfulEntry entry

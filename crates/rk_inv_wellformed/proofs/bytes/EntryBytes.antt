@@ -22,7 +22,7 @@ held_fits held key value = grind (arith, spelled_count, mark_few, kind_of, text_
 pub refused_fits : (refused : Refused) → key_fault refused.key ≡ None → FitsSegment (Entry.Refused refused)
 refused_fits refused key = grind (arith, spelled_count, mark_few, kind_of, text_within)
 
--- what came with a tablet, where the ends are no more than the clients that a lane may have
+-- what came with a tablet, if the ends are no more than the clients that a lane may have
 pub carried_fits : (carried : Carried) → length carried.ends ≤ MOST_CLIENTS + MOST_BASE_CLIENTS → FitsSegment (Entry.Carried carried)
 carried_fits carried few =
     omega (arith, few, spelled_count (Entry.Carried carried), mark_few (kind_of (Entry.Carried carried)))

@@ -30,7 +30,7 @@ unsealed_at_most master id =
 pub bytes_with_tablet : (master : Master) (id : ℕ) (tablet : Tablet) → log_bytes (with_tablet master id tablet) ≤ log_bytes master + unsealed_bytes tablet
 bytes_with_tablet master id tablet = omega (arith, inserted_most unsealed_bytes master.tablets id tablet)
 
--- where the tablets are in order, the bytes of one count in place of those that it had
+-- if the tablets are in order, the bytes of one count in place of those that it had
 pub bytes_put : (master : Master) (id : ℕ) (tablet : Tablet) → IsInOrder master.tablets
     → log_bytes (with_tablet master id tablet) + unsealed_bytes (tablet_at master id) ≡ log_bytes master + unsealed_bytes tablet
 bytes_put master id tablet order =

@@ -51,7 +51,7 @@ module _ {X : Type 0} where
       record { front = y ∷ rest.front; back = rest.back; whole = ap (λ (l : List X). y ∷ l) rest.whole })
       (stands_cases y xs x stands)
 
-  -- another thing stands in the two parts
+  -- another thing is in the two parts
   others_stand : (front back : List X) (x z : X) → (x ≡ z → ⊥) → Contains (front ++ x ∷ back) z → Contains (front ++ back) z
   others_stand front back x z differ stands =
       ⊎_elim (λ (before : Contains front z). Contains-append_left front back z before)
@@ -64,7 +64,7 @@ module _ {X : Type 0} where
   AreApart [] = ⊤
   AreApart (x ∷ xs) = ((z : X) → Contains xs z → x ≡ z → ⊥) × AreApart xs
 
-  -- things that differ and stand in a list have no more than the list
+  -- things that differ and are in a list have no more than the list
   sum_within : (size : X → ℕ) (xs ys : List X) → AreApart xs → ((z : X) → Contains xs z → Contains ys z) → sum_by size xs ≤ sum_by size ys
   sum_within size [] ys apart within = omega arith
   sum_within size (x ∷ xs) ys apart within =
@@ -91,7 +91,7 @@ module _ {X : Type 0} where
             (λ (behind : Contains xs x). pass_kept p xs x behind is) (stands_cases y xs x stands)
       ] refl
 
-  -- where none passes a test none is kept
+  -- if none passes a test, none is kept
   none_kept : (p : X → Bool) (xs : List X) → ((x : X) → Contains xs x → p x ≡ false) → filter p xs ≡ []
   none_kept p [] none = refl
   none_kept p (x ∷ xs) none =

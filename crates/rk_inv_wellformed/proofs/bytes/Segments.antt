@@ -16,7 +16,7 @@ FitsBytes bytes = length bytes ≤ SEGMENT_BYTES
 
 -- ---- the cut
 
--- bytes go into the last segment only where they fit
+-- bytes go into the last segment only if they fit
 fits_with_bytes : (segments : List (List ℕ)) (bytes : List ℕ) → All FitsBytes segments → FitsBytes bytes → All FitsBytes (with_bytes segments bytes)
 fits_with_bytes segments bytes each new = cond_both _ _ _ (All FitsBytes)
     (λ room.
@@ -38,12 +38,12 @@ fits_cut entries fits = fits_cut_after [] entries (All-nil FitsBytes) fits
 
 -- ---- numbers
 
--- a segment that a message can tell
+-- a segment that a message can carry
 pub record IsTold (segment : NumberedBytes) : Type 0 where
   pub number : IsNumber w32 0 segment.number
   pub few : FitsBytes segment.bytes
 
--- segments whose numbers count from one on fit where the last one does
+-- segments whose numbers count from one on fit if the last one does
 numbered_told : (first : ℕ) (lists : List (List ℕ)) → All FitsBytes lists → first + length lists < 256 ^ 4 → All IsTold (numbered first lists)
 numbered_told first [] each below = All-nil IsTold
 numbered_told first (bytes ∷ more) each below =
@@ -58,7 +58,7 @@ main_few entries = length-le-bytes (cut entries) (cut_filled [] entries (λ k wi
 sides_few : (sides : List (List ℕ)) → All IsFormedSide sides → length sides ≤ sum_by (λ bytes. length bytes) sides
 sides_few sides each = length-le-bytes sides (λ k within. (each k [] within).some)
 
--- each segment of a log can be told
+-- a message can carry each segment of a log
 pub segments_told : (log : Log) → All FitsSegment log.entries → All IsFormedSide log.sides → segment_bytes log < MOST_BYTES
     → All IsTold (segments log)
 segments_told log fits sides room =
@@ -68,7 +68,7 @@ segments_told log fits sides room =
 
 -- ---- pieces
 
--- a piece of a segment that a message can tell
+-- a piece of a segment that a message can carry
 pub record IsToldPiece (piece : PlacedBytes) : Type 0 where
   pub segment : IsNumber w32 0 piece.segment
   pub at : IsNumber w32 0 piece.at
@@ -77,7 +77,7 @@ pub record IsToldPiece (piece : PlacedBytes) : Type 0 where
 missing_told : (known : Known) (segment : NumberedBytes) → IsTold segment → not (is_whole known segment) ≡ true → IsToldPiece (missing known segment)
 missing_told known segment told lacks = grind (arith, known_length, leb-false, not-true, is_whole, length-drop)
 
--- what a backup is to be sent can be told
+-- a message can carry what a backup is to be sent
 pub pending_told : (log : Log) (backup : ℕ) → All IsTold (segments log) → IfSome (pending log backup) IsToldPiece
 pending_told log backup each =
     let lacks = λ (segment : NumberedBytes). not (is_whole (known_of log backup) segment) in

@@ -61,7 +61,7 @@ duties_bytes {bytes} ((id, tablet) ∷ others) {master} keeps = duties_bytes oth
     (duty_is (TurnKeeps bytes others) master id tablet tablet.handover.role (turn_behind id tablet others keeps)
     (put_keeps id tablet others keeps (with_outstanding tablet) refl))
 
--- where it begins each tablet is there
+-- at the beginning each tablet is there
 begins_so : (master : Master) → IsInOrder master.tablets → TurnKeeps (log_bytes master) master.tablets master
 begins_so master order = record {
   order = order;
@@ -74,7 +74,7 @@ begins_so master order = record {
 pub turn_bytes : (master : Master) → IsInOrder master.tablets → log_bytes (master_turn master).master ≤ log_bytes master
 turn_bytes master order = duties_bytes master.tablets (begins_so master order)
 
--- ---- what a backup tells
+-- ---- what a backup reports
 
 -- while entries are applied: the tablets wait for so many side segments
 record ApplyKeeps (bytes count : ℕ) (master : Master) : Type 0 where
@@ -150,7 +150,7 @@ going_on_bytes [] keeps = omega (arith, keeps.fits)
 going_on_bytes ((id, tablet) ∷ others) keeps =
     omega (arith, going_on_bytes others (going_on_keeps id tablet others tablet.handover.role keeps), sum_by-cons {X = ℕ × Tablet})
 
--- after what a backup told a master has no more bytes than before, and the closing entries of its tablets that wait
+-- after a backup's report a master has no more bytes than before, and the closing entries of its tablets that wait
 stored_bytes : (master : Master) (backup : ℕ) (stored : Stored) (over : Option Overreach) → IsInOrder master.tablets
     → log_bytes (stored_taken master backup stored over).master ≤ log_bytes master + CLOSING_BYTES * side_waits master.tablets
 stored_bytes master backup stored (Some beyond) order = omega arith
@@ -189,7 +189,7 @@ sides_long (items ∷ sides) all =
       sum_by-cons (λ (b : List ℕ). length b) (spelled_all (as_entries items)) rest,
     )
 
--- so what a backup told lets a well formed master have at most three times the bytes that it had
+-- so a backup's report lets a well formed master have at most three times the bytes that it had
 pub stored_thrice : {limits : Limits} {number : ℕ} {master : Master} (backup : ℕ) (stored : Stored) (over : Option Overreach)
     → IsFormedMaster limits number master
     → log_bytes (stored_taken master backup stored over).master ≤ 3 * log_bytes master

@@ -36,7 +36,7 @@ use Rattle.rk_inv_wellformed.proofs.masters.Tablets.{formed_tablet, IsFormedHand
 pub record HasRowRoom (limits : Limits) (coordinator : Coordinator) : Type 0 where
   pub terms : AreTermsUpTo limits.top coordinator.rows
 
--- the terms of the rows of a well formed lane have stood
+-- the terms of the rows of a well formed lane are at most the greatest number
 pub rows_have_room : {w : World} → IsWellFormed w → HasRowRoom (limits_of w) w.coordinator
 rows_have_room {w} formed = record { terms = terms_within w w.top formed.standing }
 
@@ -63,7 +63,7 @@ formed_with_phase : {limits : Limits} {coordinator : Coordinator} (row : Row) (p
 formed_with_phase row phase first there formed =
     formed_with_rows (formed_changed_rows row.tablet row.term phase first there (rows_of_formed formed)) formed
 
--- a coordinator that has noted what a source told
+-- a coordinator that has noted what a source handed over
 formed_with_handed : {limits : Limits} {coordinator : Coordinator} (tablet : ℕ) {handed : Handed} → IsFormedHanded limits handed → IsFormedCoordinator limits coordinator → IsFormedCoordinator limits (with_handed coordinator tablet handed)
 formed_with_handed {limits} {coordinator} tablet {handed} told formed =
     assumption (
@@ -71,7 +71,7 @@ formed_with_handed {limits} {coordinator} tablet {handed} told formed =
       each_insert (λ number other. IsFormedHanded limits other) coordinator.handed tablet handed formed.handed told,
     )
 
--- the owner that a phase tells is there
+-- the owner that a phase names is there
 owner_is_there : (limits : Limits) (phase : Phase) → IsFormedPhase limits phase → IfSome (owner_of phase) (IsMaster limits.masters)
 owner_is_there limits phase there = grind arith
 
@@ -81,7 +81,7 @@ owner_is_there limits phase there = grind arith
 any_range : {range : Range} → IsLawfulRange range → IsAnyRange range
 any_range {range} lawful = grind (arith, w64)
 
--- a row that is well formed, whose term is one that has stood
+-- a row that is well formed, whose term is at most the greatest number
 pub record HasTenure (limits : Limits) (row : Row) : Type 0 where
   pub formed : IsFormedRow limits row
   pub term : row.term ≤ limits.top
@@ -126,7 +126,7 @@ module _ (limits : Limits) (are : AreLimits limits) where
 
 -- ---- what it makes of a message
 
--- a coordinator that may send: it is well formed, and its terms have stood
+-- a coordinator that may send: it is well formed, and its terms are at most the greatest number
 record MaySend (limits : Limits) (coordinator : Coordinator) : Type 0 where
   are : AreLimits limits
   formed : IsFormedCoordinator limits coordinator
@@ -139,7 +139,7 @@ pub record IsTaken (limits : Limits) (rebuilt : Rebuilt) : Type 0 where
   pub once : AreOfDistinctClients rebuilt.ends
 
 -- an answer of two messages at most that is well formed, as is the rebuild that it takes; the coordinator after it has what it had
--- before, and its terms have stood
+-- before, and its terms are at most the greatest number
 pub record Answers (limits : Limits) (before : Coordinator) (coordinated : Coordinated) : Type 0 where
   pub coordinator : IsFormedCoordinator limits coordinated.coordinator
   pub sends : All (IsFormedMessage limits) coordinated.sends
@@ -166,7 +166,7 @@ module _ (limits : Limits) (coordinator : Coordinator) (may : MaySend limits coo
   phase_keeps : (row : Row) (phase : Phase) → Keeps (with_phase coordinator row phase) coordinator
   phase_keeps row phase = assumption (covered_changed coordinator.rows row.tablet row.term phase)
 
-  -- and its terms have stood
+  -- and its terms are at most the greatest number
   phase_room : {row : Row} (phase : Phase) → HasTenure limits row → HasRowRoom limits (with_phase coordinator row phase)
   phase_room {row} phase stood = assumption (terms_changed limits.top coordinator.rows row.tablet row.term phase stood.term may.room.terms)
 
@@ -175,7 +175,7 @@ module _ (limits : Limits) (coordinator : Coordinator) (may : MaySend limits coo
   turned_answer {row} phase sends stood there all few =
       assumption (formed_with_phase row phase stood.formed.term there may.formed, phase_keeps row phase, phase_room phase stood)
 
-  -- a row is at another phase, and what a source told is noted
+  -- a row is at another phase, and what a source handed over is noted
   moved_answer : {row : Row} (phase : Phase) (handed : Handed) → HasTenure limits row → IsFormedPhase limits phase → IsFormedHanded limits handed → Answers limits coordinator (unanswered (with_handed (with_phase coordinator row phase) row.tablet handed))
   moved_answer {row} phase handed stood there told =
       let turned = turned_answer phase [] stood there (All-nil _) (omega arith) in
@@ -263,7 +263,7 @@ module _ (limits : Limits) (coordinator : Coordinator) (may : MaySend limits coo
   told_answers sender body there lawful says =
       grind (arith, report_answers, no_answer, same_answer, located, row_with, formed_located, found_row, has, by_found)
 
--- what a well formed coordinator, whose terms have stood, makes of a well formed message
+-- what a well formed coordinator, whose terms are at most the greatest number, makes of a well formed message
 pub formed_coordinator_step : {limits : Limits} {coordinator : Coordinator} {message : Message} → AreLimits limits → IsFormedCoordinator limits coordinator → HasRowRoom limits coordinator → IsFormedMessage limits message → Answers limits coordinator (coordinator_step coordinator message)
 formed_coordinator_step {limits} {coordinator} {message} are formed room told = told_answers limits coordinator
     (assumption) message.from message.body told.from told.lawful told.says
@@ -271,7 +271,7 @@ formed_coordinator_step {limits} {coordinator} {message} are formed room told = 
 -- ---- its turn
 
 module _ (limits : Limits) (coordinator : Coordinator) (may : MaySend limits coordinator) where
-  -- what a source told, or that it told nothing
+  -- what a source handed over, or that it handed over nothing
   handed_is_formed : (tablet : ℕ) → 1 ≤ limits.top → IsFormedHanded limits (get_or (record { floor = 1; ends = [] }) coordinator.handed tablet)
   handed_is_formed tablet some =
       let nothing : IsFormedHanded limits (record { floor = 1; ends = [] }) =
@@ -283,7 +283,7 @@ module _ (limits : Limits) (coordinator : Coordinator) (may : MaySend limits coo
   formed_duty phase stood there =
       grind (arith, handed_is_formed, recursion_from_All)
 
--- what a well formed coordinator, whose terms have stood, sends on its turn
+-- what a well formed coordinator, whose terms are at most the greatest number, sends on its turn
 pub formed_coordinator_turn : {limits : Limits} {coordinator : Coordinator} → AreLimits limits → IsFormedCoordinator limits coordinator → HasRowRoom limits coordinator → All (IsFormedMessage limits) (coordinator_turn coordinator)
 formed_coordinator_turn {limits} {coordinator} are formed room =
     all_flat (IsFormedMessage limits) (λ row. row_duty coordinator row row.phase) coordinator.rows
@@ -331,7 +331,7 @@ module _ (limits : Limits) (coordinator : Coordinator) (formed : IsFormedCoordin
       (λ row found. migrating_changes row tablet row.phase found
       (phase_of_formed (all_found (IsFormedRow limits) row tablet coordinator.rows found formed.rows)) target)
 
-  -- a row at the first term is added, where that is not refused
+  -- a row at the first term is added, if that is not refused
   pub formed_with_row : {row : Row} → add_fault coordinator.rows row ≡ None → IsFormedRow limits row → row.term ≡ 1 → IsFormedChange limits coordinator (with_row coordinator row)
   formed_with_row {row} none new first =
       rows_change formed (formed_placed none new (rows_of_formed formed)) (covered_placed row coordinator.rows)
@@ -368,12 +368,12 @@ module _ (limits : Limits) (coordinator : Coordinator) (formed : IsFormedCoordin
       phase : IsFormedPhase limits row.phase
       phase = phase_of_formed (all_found (IsFormedRow limits) row tablet coordinator.rows found formed.rows)
 
-  -- a tablet is split, where that is not refused
+  -- a tablet is split, if that is not refused
   pub formed_rows_split : (tablet at new : ℕ) → tablet_split_fault coordinator tablet at new ≡ None → IsNumber w32 1 new → IsFormedChange limits coordinator (rows_split coordinator tablet at new)
   formed_rows_split tablet at new none number =
       grind (arith, by_found, tablet_split_fault_of, rows_split_of, row_of, with_rows_split_changes, no_inner, split_fault)
 
--- the term that both rows have then has stood, where those of all rows have
+-- the term that both rows have then is at most the greatest number, if those of all rows are
 pub split_term_stood : (limits : Limits) (coordinator : Coordinator) (tablet at new : ℕ) (row : Row) → row_of coordinator.rows tablet ≡ Some row → HasRowRoom limits (rows_split coordinator tablet at new) → IsFormedNumber limits (row.term + 1)
 split_term_stood limits coordinator tablet at new row found room = record {
   first = omega arith;
@@ -391,7 +391,7 @@ split_term_stood limits coordinator tablet at new row found room = record {
     known : IsKnown coordinator.rows row.tablet
     known = subst (IsKnown coordinator.rows) (sym (number_of coordinator.rows tablet row found)) (ap is_some found)
 
--- and 1 has stood where a new row has
+-- and so is 1, if those of all rows are with a new row at term 1
 pub one_has_stood : (limits : Limits) (coordinator : Coordinator) (row : Row) → row.term ≡ 1 → HasRowRoom limits (with_row coordinator row) → 1 ≤ limits.top
 one_has_stood limits coordinator row first room = grind (arith, placed_has)
 
@@ -425,7 +425,7 @@ module _ (limits : Limits) (number : ℕ) (master : Master) (formed : IsFormedMa
       (none_waits Role.Serving [] _ (λ sealed. refl)))
       (half_is_formed is (lawful_from range at above within old.range) stood old) (none_waits Role.Serving [] _ (λ sealed. refl))
 
-  -- the master serves both halves of a tablet, at a term that has stood, where both have a hash
+  -- the master serves both halves of a tablet, at a term that is at most the greatest number, if both have a hash
   pub formed_with_split : (tablet at new term : ℕ) → IsNumber w32 1 new → IsFormedNumber limits term → IsFormedMaster limits number (with_split master tablet at new term)
   formed_with_split tablet at new term is stood =
       by_found (λ found. IsFormedMaster limits number (split_of (unwrap_or found no_tablet))) (get master.tablets tablet)
@@ -441,7 +441,7 @@ module _ (limits : Limits) (number : ℕ) (master : Master) (formed : IsFormedMa
 abbrev served : Tablet → Range → Tablet
 served tablet range = record tablet { handover = record { role = Role.Serving; term = 1; range = range; counter = 1 } }
 
--- a master serves a tablet that is added, where 1 has stood, as its term and its counter are
+-- a master serves a tablet that is added, if 1, its term and its counter, is at most the greatest number
 pub formed_with_added : {limits : Limits} {number : ℕ} {master : Master} {tablet : ℕ} {range : Range} → 1 ≤ limits.top → IsNumber w32 1 tablet → IsLawfulRange range → IsFormedMaster limits number master → IsFormedMaster limits number (with_added master tablet range)
 formed_with_added {limits} {number} {master} {tablet} {range} some is lawful formed =
     let one : IsFormedNumber limits 1 = omega (arith, some) in

@@ -20,11 +20,11 @@ record IsBetween (start count number : ℕ) : Type 0 where
   first : start ≤ number
   before : number < start + count
 
--- a number that passes is not one that fails
+-- a number that passes is not a number that fails
 passes_apart : (test : ℕ → Bool) (number other : ℕ) → test number ≡ true → test other ≡ false → number ≡ other → ⊥
 passes_apart test number other passes fails same = absurd (cc (passes, ap test same, fails))
 
--- the first number of a range that passes, where some number there passes, is within it
+-- the first number of a range that passes, if some number there passes, is within it
 first_between : (test : ℕ → Bool) (start count number : ℕ) → IsBetween start count number → test number ≡ true → IsBetween start count (unwrap_or (find test (range_with_len start count)) 0)
 first_between test start zero number within passes = absurd (omega (arith, within))
 first_between test start (suc count) number within passes = cond_both _ _ _ (λ (found : Option ℕ). IsBetween start (suc count) (unwrap_or found 0))
@@ -46,12 +46,12 @@ next_is_there limits coordinator lineage members lowest =
 
 -- ---- the phase of a row
 
--- by a test: what has a property, or else another one that has it, if there is one
+-- by a test: what has a property, or else another thing that has it, if there is one
 some_where : {X : Type 0} (P : X → Type 0) (test : Bool) (x : X) (other : Option X) → P x → IfSome other P → IfSome (cond test (Some x) other) P
 some_where P true x other it has = it
 some_where P false x other it has = has
 
--- the phase of a row, where it changes
+-- the phase of a row, if it changes
 phase_is_formed : (limits : Limits) (coordinator : Coordinator) (dead : ℕ) (phase : Phase) → IsMaster limits.masters dead → IsMaster limits.masters (lowest_left coordinator) → IsFormedPhase limits phase → IfSome (phase_noticed coordinator dead phase) (IsFormedPhase limits)
 phase_is_formed limits coordinator dead (Owned master from) gone lowest there =
     grind (arith, some_where, member, lowest_left, one_named, there.from)
@@ -125,9 +125,9 @@ record IsGone (limits : Limits) (w : World) (dead : ℕ) : Type 0 where
   there : IsMaster limits.masters dead
   crashed : has_crashed w dead ≡ true
 
--- in a lane where a master lives
+-- in a lane with a living master
 module _ (limits : Limits) (w : World) (living : ℕ) (there : IsMaster limits.masters living) (lives : has_crashed w living ≡ false) where
-  -- the lowest one that was not noticed is there, where only those were noticed that have crashed
+  -- the lowest master that was not noticed is there, if only masters that have crashed were noticed
   lowest_is_there : (coordinator : Coordinator) → coordinator.masters ≡ limits.masters → All (λ master. has_crashed w master ≡ true) coordinator.noticed
       → IsMaster limits.masters (lowest_left coordinator)
   lowest_is_there coordinator same noticed =
@@ -189,7 +189,7 @@ module _ (limits : Limits) (w : World) (living : ℕ) (there : IsMaster limits.m
 abbrev is_other : List Row → ℕ → ℕ → Bool
 is_other rows dead master = is_named rows master && not (master == dead)
 
--- that one, where rows name it
+-- that master, if rows name it
 abbrev is_itself : List Row → ℕ → ℕ → Bool
 is_itself rows dead master = is_named rows master && (master == dead)
 

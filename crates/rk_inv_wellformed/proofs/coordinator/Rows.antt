@@ -40,7 +40,7 @@ placed_has P row [] all = All-head P row [] all
 placed_has P row (first ∷ rest) all = either_way (λ (now : List Row). All P now → P row) (nat_le row.tablet first.tablet)
     (λ here. All-head P row (first ∷ rest) here) (λ later. placed_has P row rest (All-tail P first (placed row rest) later)) all
 
--- what all have with a row in the place of one that is there, it has
+-- what all have with a row in the place of another that is there, that row has
 replaced_has : (P : Row → Type 0) (row new : Row) (tablet : ℕ) (rows : List Row) → row_of rows tablet ≡ Some row → All P (replaced tablet new rows) → P new
 replaced_has P row new tablet [] found all = absurd (cc found)
 replaced_has P row new tablet (first ∷ rest) found all = found_cases _ first row rest tablet found
@@ -54,7 +54,7 @@ replaced_has P row new tablet (first ∷ rest) found all = found_cases _ first r
 abbrev pub IsKnown : List Row → ℕ → Type 0
 IsKnown rows tablet = is_some (row_of rows tablet) ≡ true
 
--- where the first row is that of the tablet, or a later one
+-- if the first row is that of the tablet, or a later row is
 known_by : (first : Row) (rest : List Row) (tablet : ℕ) → ((first.tablet == tablet) ≡ false → IsKnown rest tablet) → IsKnown (first ∷ rest) tablet
 known_by first rest tablet later = cond_both _ _ _ (λ (found : Option Row). is_some found ≡ true) (λ is. refl) later
 
@@ -88,7 +88,7 @@ covered_replaced row new tablet (first ∷ rest) table hash found range = found_
     (λ apart later. rw apart (ap (λ b. has first.range table hash || b)
     (covered_replaced row new tablet rest table hash later range)))
 
--- and where its left side is, or else what may be put for its right side is
+-- a disjunction still holds once its right side is replaced by what follows from it
 or_later : (a b c : Bool) → (a || b) ≡ true → (b ≡ true → c ≡ true) → (a || c) ≡ true
 or_later true b c is later = refl
 or_later false b c is later = later is
@@ -121,7 +121,7 @@ pub record AreFormedRows (limits : Limits) (rows : List Row) : Type 0 where
 abbrev pub AreTermsUpTo : ℕ → List Row → Type 0
 AreTermsUpTo most rows = All (λ row. row.term ≤ most) rows
 
--- what bounds them stands below greater numbers
+-- a number greater than a bound of theirs bounds them too
 pub terms_below : (most greater : ℕ) (rows : List Row) → most ≤ greater → AreTermsUpTo most rows → AreTermsUpTo greater rows
 terms_below most greater rows less all place other within = le_trans (all place other within) less
 
@@ -194,7 +194,7 @@ terms_changed most rows tablet term phase below all =
 pub known_changed : (rows : List Row) (tablet term : ℕ) (phase : Phase) (other : ℕ) → IsKnown rows other → IsKnown (changed_rows rows tablet term phase) other
 known_changed rows tablet term phase other known = grind (arith, by_found, row_of, known_replaced, number_of)
 
--- where the tablet is known, its new term is one that they have
+-- if the tablet is known, its new term is among theirs
 pub term_changed : (most : ℕ) (rows : List Row) (tablet term : ℕ) (phase : Phase) → IsKnown rows tablet → AreTermsUpTo most (changed_rows rows tablet term phase) → term ≤ most
 term_changed most rows tablet term phase known all =
     by_found (λ found. is_some found ≡ true → AreTermsUpTo most (turned found rows tablet term phase) → term ≤ most) (row_of rows tablet)
@@ -238,7 +238,7 @@ pub record IsFree (rows : List Row) (row : Row) (at new : ℕ) : Type 0 where
 pub split_is_free : (rows : List Row) (tablet at new : ℕ) (row : Row) → row_of rows tablet ≡ Some row → split_fault rows tablet at new ≡ None → IsFree rows row at new
 split_is_free rows tablet at new row found none = grind (arith, row_of, cut_fault, is_split, and_parts, nat_lt, nat_le, ltb-true, leb-true)
 
--- rows of which one is split, where that is not refused
+-- rows of which one is split, if that is not refused
 pub formed_split_rows : (limits : Limits) (rows : List Row) (tablet at new : ℕ) → IsNumber w32 1 new → split_fault rows tablet at new ≡ None → AreFormedRows limits rows → AreFormedRows limits (split_rows rows tablet at new)
 formed_split_rows limits rows tablet at new number none formed =
     by_found (λ found. AreFormedRows limits (divided found rows tablet at new)) (row_of rows tablet) (λ nothing. formed)

@@ -121,7 +121,7 @@ pub record IsFormedVisit (w : World) (visited : Visited) : Type 0 where
 abbrev pub now_asked : Session → Call → LastCall
 now_asked session call = record { call = call; seen = session.seen }
 
--- the ledger stays where the call was asked, and else has it as its client's last
+-- the ledger stays if the call was asked, and else has it as its client's last
 pub asked_is : (P : Ledger → Type 0) (ledger : Ledger) (session : Session) (call : Call) → (is_asked ledger session call ≡ true → P ledger) → (is_asked ledger session call ≡ false → P (with_asked ledger session.client (now_asked session call))) → P (ledger_asked ledger session call)
 asked_is P ledger session call before now = cond_both _ _ _ P before now
 
@@ -201,7 +201,7 @@ module _ (w : World) (session : Session) (call : Call) (turned : ClientTurn) whe
       (turned.message ∷ []) (All-cons (IsFormedMessage (limits_of after_asking)) turned.message [] message (All-nil _)))
       formed
 
--- where one of two holds and not the first, the second does
+-- if one of two holds, and the first does not, the second does
 or_second : (a b : Bool) → (a || b) ≡ true → a ≡ false → b ≡ true
 or_second true b either first = absurd (cc first)
 or_second false b either first = either
@@ -244,7 +244,7 @@ formed_asking {w} {session} may start none room formed = go session.outstanding 
         (asks call is fitting))
         (λ other room_there. nothing) room_left
 
--- so it is where the client's turn is not refused
+-- so it is if the client's turn is not refused
 pub formed_ask : (w : World) (session : Session) (visited : Visited) → ask w session ≡ Ok visited → MayAct w.coordinator.masters session → IfSome session.outstanding (IsAfterStart w.base) → HasRoom visited.world → IsWellFormed w → IsFormedVisit w visited
 formed_ask w session visited asked may start room formed = grind (arith, by_found, ask_by, ask_refusal, asking, formed_asking)
 
@@ -274,7 +274,7 @@ formed_accepting {w} number {session} may formed =
     })
     assumption)
 
--- so it is where the client's message is not refused
+-- so it is if the client's message is not refused
 pub formed_accept : (w : World) (number : ℕ) (session : Session) (visited : Visited) → accept w number session ≡ Ok visited → MayAct w.coordinator.masters session → IsWellFormed w → IsFormedVisit w visited
 formed_accept w number session visited taken may formed =
     by_found (λ refused. accept_by w number session refused ≡ Ok visited → IsFormedVisit w visited)

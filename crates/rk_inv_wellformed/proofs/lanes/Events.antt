@@ -17,7 +17,7 @@ use Rattle.std.proofs.lemmas.List.Folds.{Any-from_list_any}
 
 -- ---- what is not refused
 
--- where of two causes there is none, there is no first one
+-- if there is neither of two causes, there is no first one
 pub no_first : {X : Type 0} (first second : Option X) → option_or first second ≡ None → first ≡ None
 no_first None second none = refl
 no_first (Some x) second none = absurd (cc none)
@@ -96,7 +96,7 @@ formed_come {w} client called number none formed =
 
 -- ---- a master crashes
 
--- where another master lives, it is left once this one has crashed
+-- if another master lives, it is left once this one has crashed
 left_after : (w : World) (master : ℕ) → lives_another w master ≡ true → SomeIsLeft w.coordinator.masters (w.crashed ++ master ∷ [])
 left_after w master another =
     let numbers = range_with_len 1 w.coordinator.masters in

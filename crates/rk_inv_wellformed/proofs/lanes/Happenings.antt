@@ -7,7 +7,7 @@ use Rattle.rk_inv_wellformed.proofs.lanes.Asks.{formed_accept, formed_ask}
 use Rattle.rk_inv_wellformed.proofs.maps.{by_found}
 use Rattle.rk_inv_wellformed.proofs.room.Rooms.{room_accept, room_ask}
 
--- a lane is well formed after an event where what it makes of the lane is, unless it is refused
+-- a lane is well formed after an event if what it makes of the lane is, unless it is refused
 pub formed_after_event : (w : World) (event : Event) (called : Called) → (refusal w event ≡ None → HasRoom (happened w event called).world → IsWellFormed (happened w event called).world) → HasRoom (after w (Happens event called)) → IsWellFormed w → IsWellFormed (after w (Happens event called))
 formed_after_event w event called makes room formed =
     by_found (λ refused. HasRoom (world_stepped w (stepped_by w event called refused)) → IsWellFormed (world_stepped w (stepped_by w event called refused)))

@@ -77,7 +77,7 @@ ended_is P ledger end stays told = by_found (λ found. P (with_end_of ledger end
     (λ asked is. either_way P (asked.call.seq == end.seq && not (has_record ledger.journal end.client end.seq)) (told asked is) stays)
 
 module _ (limits : Limits) (base : Base) (lane : ℕ) where
-  -- a ledger with another journal is well formed where the journal's stamps are
+  -- a ledger with another journal is well formed if the journal's stamps are
   journaled : {ledger : Ledger} {journal : List Placed} → AreStamps journal → IsFormedLedger limits base lane ledger → IsFormedLedger limits base lane (record ledger { journal = journal })
   journaled are formed = assumption
 
@@ -149,7 +149,7 @@ abbrev IsFormedClient : Base → ℕ → ℕ → Option LastCall → Type 0
 IsFormedClient base lane client last = IsNumber w32 1 client × IfSome last (IsFormedLast base lane client)
 
 module _ (limits : Limits) (base : Base) (lane : ℕ) where
-  -- a client comes that was not added, where others are fewer than there may be
+  -- a client comes that was not added, if others are fewer than there may be
   pub formed_client : {ledger : Ledger} {client : ℕ} → IsNumber w32 1 client → is_added ledger client ≡ false → length ledger.clients < MOST_CLIENTS → IsFormedLedger limits base lane ledger → IsFormedLedger limits base lane (with_client ledger client)
   formed_client {ledger} {client} number new few formed =
       let fewer : length (insert ledger.clients client None) ≤ MOST_CLIENTS = omega (arith, few, length_put ledger.clients client None false formed.clients_order new) in

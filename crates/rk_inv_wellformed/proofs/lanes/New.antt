@@ -11,7 +11,7 @@ use Rattle.rk_inv_wellformed.proofs.maps.{all_flat, all_each, found_numbered, nu
 
 -- ---- a lane
 
--- nothing stands in an empty map
+-- nothing is in an empty map
 nothing_in_it : {X : Type 0} (Fits : ℕ → X → Type 0) → EachIn Fits []
 nothing_in_it Fits number thing found = absurd (cc found)
 
@@ -106,6 +106,6 @@ module _ (lane masters backups : ℕ) where
 pub new_may_act : (count client : ℕ) → IsNumber w32 1 client → MayAct count (new_session client)
 new_may_act count client number = grind arith
 
--- and so may one that asks a lawful call, unless one is outstanding
+-- and so may a session that asks a lawful call, unless a call is outstanding
 pub may_act_calling : (count : ℕ) (session : Session) (table : ℕ) (key : List ℕ) (op : Op) → IsLawfulCall (next_call session table key op) → MayAct count session → MayAct count (session_calling session table key op (busy session))
 may_act_calling count session table key op lawful may = grind (arith, busy, session_calling)

@@ -62,7 +62,7 @@ formed_turned _ there room formed left = formed_losing formed
 
 -- ---- a row changes
 
--- a coordinator after a change, within all wider limits, may stand in the lane
+-- a coordinator after a change, within all wider limits, may be in the lane
 by_change : {w : World} (coordinator : Coordinator) → IsWellFormed w
     → ((limits : Limits) → IsMore (limits_of w) limits → IsFormedCoordinator limits w.coordinator → IsFormedChange limits w.coordinator coordinator)
     → (limits : Limits) → IsMore (limits_of w) limits → MayCoordinate limits w coordinator
@@ -117,7 +117,7 @@ formed_split w tablet at new number none formed =
 
 -- ---- every event
 
--- a lane stays well formed at each event that is not refused, where its numbers fit then
+-- a lane stays well formed at each event that is not refused, if its numbers fit then
 pub formed_event : (w : World) (event : Event) (called : Called) → MayHappen w event → MayCome called → IsCalmEvent w event → refusal w event ≡ None → HasRoom w → HasRoom (happened w event called).world → IsWellFormed w → IsWellFormed (happened w event called).world
 formed_event w (Event.AddTablet tablet range master) called may come calm none room after_room formed =
     formed_added tablet range master may none formed
@@ -142,7 +142,7 @@ formed_after {w} (Happens event called) may calm room after_room formed = formed
 formed_after {w} (Asks session) may calm room after_room formed = grind (arith, formed_asks)
 formed_after {w} (Accepts number session) may calm room after_room formed = grind (arith, formed_accepts)
 
--- the first world of a run has room where each has
+-- the first world of a run has room if each has
 pub first_has_room : (w : World) (list : List Happening) → AllHaveRoom w list → HasRoom w
 first_has_room w [] room = room
 first_has_room w (happening ∷ later) room = room.0

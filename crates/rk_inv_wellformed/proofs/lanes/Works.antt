@@ -18,7 +18,7 @@ use Rattle.rk_inv_wellformed.proofs.lanes.Worlds.{top_is_limit, formed_as, forme
 use Rattle.rk_inv_wellformed.proofs.maps.{either_way, by_found}
 use Rattle.rk_inv_wellformed.proofs.masters.Work.{AreLimits, HasRoomFor, IsFormedWork, MOST_AT_ONCE}
 
--- a message is delivered: it is lost or says nothing, or a master, the coordinator or a backup works; P is told how many bytes it brings
+-- a message is delivered: it is lost or says nothing, or a master, the coordinator or a backup works; P takes how many bytes it brings
 module _ (w : World) (called : Called) (formed : IsWellFormed w) (P : ℕ → World → Type 0) (loses : (bytes : ℕ) → P bytes (losing w).world)
     (works : (message : Message) (master : ℕ) → IsMaster w.coordinator.masters master → IsFormedMessage (limits_of w) message
     → P (brought_by (master_at w master) message.body) (worked_at w master (seen_in message.body) (master_step (master_at w master) message)).world)
@@ -59,14 +59,14 @@ top_rises w = omega arith
 pub more_topped : (w : World) (top : ℕ) → w.top ≤ top → IsMore (limits_of w) (limits_at w top)
 more_topped w top up = more_limits w w.coordinator w.ledger top refl (λ client added. added) up
 
--- a lane stays well formed after a change that keeps to wider limits where the lane did
+-- a lane stays well formed after a change that keeps to wider limits if the lane did
 pub formed_after_change : {w : World} (after : World) → IsMore (limits_of w) (limits_of (with_top after))
     → (IsFormedWorld (limits_of (with_top after)) w → IsFormedWorld (limits_of (with_top after)) after) → IsWellFormed w → IsWellFormed (with_top after)
 formed_after_change after more keeps formed = formed_topped (keeps (formed_within more formed))
 
 -- ---- nothing is sent
 
--- a lane stays well formed when what stands is counted
+-- a lane stays well formed when the numbers in it are counted
 pub formed_losing : {w : World} → IsWellFormed w → IsWellFormed (losing w).world
 formed_losing {w} formed = formed_after_change w (more_topped w (with_top w).top (top_rises w)) (λ before. before) formed
 
@@ -102,7 +102,7 @@ module _ (w : World) (number seen : ℕ) (worked : Worked) where
   pub more_worked : IsMore (limits_of w) (limits_of after_work)
   more_worked = grind (arith, more_limits, ledger_after, same_clients, same_after, top_rises, with_all_sent)
 
-  -- and the world after it is well formed, where the work of a well formed master is within limits in which that has room
+  -- and the world after it is well formed, if the work of a well formed master is within limits in which that has room
   pub formed_worked : IsMaster w.coordinator.masters number
       → (AreLimits (limits_of after_work) → IsFormedMaster (limits_of after_work) number (master_at w number)
       → HasRoomFor (limits_of after_work) worked.master → IsFormedWork (limits_of after_work) number MOST_AT_ONCE worked)
@@ -160,7 +160,7 @@ module _ (w : World) (coordinator : Coordinator) (rebuilt : Option Rebuilt) (sen
       (kept_with_coordinator _ w before coordinator new) (formed_rebuilt _ w.base w.lane rebuilt before.ledger)) sends all)
       formed
 
-  -- so it is where what the coordinator made is well formed within the limits before it
+  -- so it is if what the coordinator made is well formed within the limits before it
   pub formed_coordinated_old : MayCoordinate (limits_of w) w coordinator → All (IsFormedMessage (limits_of w)) sends → IsWellFormed w → IsWellFormed after_coordinated
   formed_coordinated_old new all formed =
       let more = more_coordinated new.masters in
@@ -174,11 +174,11 @@ module _ (w : World) (coordinator : Coordinator) (formed : IsWellFormed w)
   same_masters : w.coordinator.masters ≡ coordinator.masters
   same_masters = (may (limits_of w) (more_self (limits_of w))).masters
 
-  -- a lane stays well formed where the coordinator may stand in it within all wider limits
+  -- a lane stays well formed if the coordinator may be in it within all wider limits
   pub formed_by_rows : IsWellFormed (quietly (with_coordinator w coordinator)).world
   formed_by_rows = formed_coordinated w coordinator None [] (may _ (more_coordinated w coordinator None [] same_masters)) (All-nil _) formed
 
-  -- and where a master is well formed then, once the terms of all rows have stood
+  -- and if a master is well formed then, once the terms of all rows are at most the greatest number
   pub formed_by_both : (number : ℕ) (master : Master) → IsMaster w.coordinator.masters number
       → ((limits : Limits) → IsMore (limits_of w) limits → All (λ row. row.term ≤ limits.top) coordinator.rows → IsFormedMaster limits number master)
       → IsWellFormed (quietly (with_coordinator (with_master w number master) coordinator)).world

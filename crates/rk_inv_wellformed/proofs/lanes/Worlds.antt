@@ -50,7 +50,7 @@ module _ (limits : Limits) where
 fitting : (n top : ℕ) → n ≤ top → top < MOST_NUMBER → IsNumber w64 0 n
 fitting n top below room = record { least_is = omega arith; fits = omega arith }
 
--- a reply with stamp and place of a record is lawful, where the greatest stamp fits
+-- a reply with stamp and place of a record is lawful, if the greatest stamp fits
 filled_with : (journal : List Placed) (reply : Reply) (place : ℕ) (found : Option Placed) → slice_get journal place ≡ found → AreStamps journal → last_stamp journal < MOST_NUMBER → IsLawfulReply reply → IsLawfulReply (reply_with reply place found)
 filled_with journal reply place None found are room lawful = lawful
 filled_with journal reply place (Some placed) found are room lawful =
@@ -90,7 +90,7 @@ pub more_limits : (w : World) (coordinator : Coordinator) (ledger : Ledger) (top
 more_limits w coordinator ledger top same has greater =
     grind (arith, list_any-append, nat_eq, numbers, base_clients, is_among, or_left, among_numbers, or_right, cases_Bool)
 
--- these are limits that a lane may have, where there are few clients and the greatest number fits
+-- these are limits that a lane may have, if there are few clients and the greatest number fits
 pub limits_with : (w : World) (coordinator : Coordinator) (ledger : Ledger) (top : ℕ) → w.coordinator.masters ≡ coordinator.masters → length ledger.clients ≤ MOST_CLIENTS → top < MOST_NUMBER → IsWellFormed w → AreLimits (limits_at (with_ledger (with_coordinator w coordinator) ledger) top)
 limits_with w coordinator ledger top same few room formed = grind (arith, numbers, base_clients, length-append, length-map)
 
@@ -98,13 +98,13 @@ limits_with w coordinator ledger top same few room formed = grind (arith, number
 pub formed_limits : (w : World) → IsWellFormed w → HasRoom w → AreLimits (limits_of w)
 formed_limits w formed room = limits_with w w.coordinator w.ledger w.top refl formed.ledger.few room.number formed
 
--- ---- what stands
+-- ---- the numbers of a world
 
--- a limit that all numbers that stand keep to
+-- a limit that all numbers of a world keep to
 abbrev pub IsLimit : ℕ → World → Type 0
 IsLimit limit w = All (λ number. number ≤ limit) (standing w)
 
--- the greatest number of a lane once what stands is counted is such a limit
+-- the greatest number of a lane once the numbers in it are counted is such a limit
 pub top_is_limit : (w : World) → IsLimit (with_top w).top w
 top_is_limit w place other within = under _ w.top (greatest (standing w)) (below_greatest (standing w) place other within)
   where
@@ -169,8 +169,8 @@ pub record SomeIsLeft (count : ℕ) (crashed : List ℕ) : Type 0 where
   pub there : IsMaster count master
   pub lives : list_any (λ dead. nat_eq dead master) crashed ≡ false
 
--- a world keeps to limits, which need not be its own: this is what a well formed lane has but for what stands, with the masters and
--- backups counted by the limits
+-- a world keeps to limits, which need not be its own: this is what a well formed lane has but for the bound on its numbers, with the
+-- masters and backups counted by the limits
 pub record IsFormedWorld (limits : Limits) (w : World) : Type 0 where
   pub masters_are : numbers w.masters ≡ range_with_len 1 limits.masters
   pub few_masters : limits.masters ≤ MOST_MASTERS
@@ -205,11 +205,11 @@ formed_within {w} {limits} more formed =
       All-weaker (IsMaster w.coordinator.masters) (IsMaster limits.masters) (more_master_number (limits_of w) limits more) w.crashed formed.crashed,
     )
 
--- a world that keeps to the limits that it has is well formed, where its greatest number bounds what stands
+-- a world that keeps to the limits that it has is well formed, if its greatest number bounds the numbers in it
 pub formed_standing : {w : World} → IsFormedWorld (limits_of w) w → IsLimit w.top w → IsWellFormed w
 formed_standing {w} kept standing = grind (arith, has_crashed)
 
--- so is one that keeps to those that it has once what stands is counted
+-- so is a world that keeps to the limits that it has once the numbers in it are counted
 pub formed_topped : {w : World} → IsFormedWorld (limits_of (with_top w)) w → IsWellFormed (with_top w)
 formed_topped {w} kept = formed_standing {w = with_top w} (assumption) (top_is_limit w)
 
@@ -221,7 +221,7 @@ formed_as {w} formed = formed_within (record { masters = refl; backups = refl; t
 abbrev pub CoversBase : World → List Row → Type 0
 CoversBase w rows = All (λ item. is_covered rows item.table (hash_of item.key) ≡ true) w.base.items
 
--- a coordinator that may stand in a lane: it is well formed within limits and counts the lane's masters, who was noticed has crashed,
+-- a coordinator that a lane may have: it is well formed within limits and counts the lane's masters, who was noticed has crashed,
 -- and the rows cover what the history starts from
 pub record MayCoordinate (limits : Limits) (w : World) (coordinator : Coordinator) : Type 0 where
   pub formed : IsFormedCoordinator limits coordinator
@@ -235,7 +235,7 @@ base_covered {w} rows covers formed =
     λ place other within. covers _ _ (formed.base place other within)
 
 module _ (limits : Limits) (w : World) (coordinator : Coordinator) where
-  -- so it may where it noticed no more masters than before, and covers what was covered
+  -- so it may if it noticed no more masters than before, and covers what was covered
   pub may_coordinate : IsFormedCoordinator limits coordinator → w.coordinator.masters ≡ coordinator.masters → coordinator.noticed ≡ w.coordinator.noticed → Cover coordinator.rows w.coordinator.rows → IsWellFormed w → MayCoordinate limits w coordinator
   may_coordinate new masters noticed covers formed = grind (arith, has_crashed, base_covered)
 

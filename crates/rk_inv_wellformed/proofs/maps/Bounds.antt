@@ -25,7 +25,7 @@ greatest_within limit numbers all =
 
 -- ---- maps by number
 
--- what holds of each thing of a map holds of the one that is found
+-- what holds of each thing of a map holds of the thing that is found
 pub all_in_map : {X : Type 0} (P : X → Type 0) (things : NumberMap X) (number : ℕ) (thing : X) → get things number ≡ Some thing → All (λ entry. P entry.1) things → P thing
 all_in_map P things number thing found all = each_from_pairs (λ number thing. P thing) things all number thing found
 

@@ -33,14 +33,14 @@ completions_order completions [] order = order
 completions_order completions (ended ∷ later) order =
     completions_order (noted completions ended) later (noted_order completions ended order)
 
--- each end has what it had, where the new ones have it too
+-- each end has what it had, if the new ones have it too
 pub completions_each : (P : Ended → Type 0) (completions : Completions) (ends : List Ended) → All P (ends_of completions) → All P ends
     → All P (ends_of (completions_from completions ends))
 completions_each P completions [] each new = each
 completions_each P completions (ended ∷ later) each new = completions_each P (noted completions ended) later
     (noted_each P completions ended each (All-head P ended later new)) (All-tail P ended later new)
 
--- clients above one that is below all rise
+-- clients above a number that is below all rise
 rise_above : (n : ℕ) (completions : Completions) → T (below_all nat_cmp n completions) → IsInOrder completions → RiseAbove n (ends_of completions)
 rise_above n [] below order = tt
 rise_above n (entry ∷ entries) below order = (
@@ -48,7 +48,7 @@ rise_above n (entry ∷ entries) below order = (
   rise_above entry.0 entries (first (below_all nat_cmp entry.0 entries) _ order) (second (below_all nat_cmp entry.0 entries) _ order),
 )
 
--- the ends of completions in order rise, where clients count from 1
+-- the ends of completions in order rise, if clients count from 1
 pub ends_rise : (completions : Completions) → IsInOrder completions → All (λ end. 1 ≤ end.client) (ends_of completions)
     → RiseAbove 0 (ends_of completions)
 ends_rise [] order each = tt

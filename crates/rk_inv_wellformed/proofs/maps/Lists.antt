@@ -94,7 +94,7 @@ fold_keeps_all P Q f (x ∷ xs) b now each step =
 pub all_each : {X : Type 0} (P : X → Type 0) (xs : List X) → ((x : X) → P x) → All P xs
 all_each P xs holds place other within = holds _
 
--- what all have, and what stands in for none, the one at a place has
+-- what all have, and what is used for none has, the thing at a place has
 pub all_at : {X : Type 0} (P : X → Type 0) (xs : List X) (place : ℕ) (none : X) → P none → All P xs → P (slice_index_or xs place none)
 all_at P [] place none it all = it
 all_at P (x ∷ xs) zero none it all = All-head P x xs all

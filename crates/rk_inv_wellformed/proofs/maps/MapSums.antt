@@ -7,7 +7,7 @@ use Rattle.rk_inv_wellformed.proofs.maps.Bounds.{within_sum_of}
 use Rattle.rk_inv_wellformed.proofs.maps.Lists.{by_found}
 use Rattle.rk_inv_wellformed.proofs.maps.Maps.{above_all, first, second}
 
--- the size of what is under a number, 0 where nothing is
+-- the size of what is under a number, 0 if nothing is
 abbrev pub size_found : {X : Type 0} → (X → ℕ) → Option X → ℕ
 size_found size None = 0
 size_found size (Some thing) = size thing
@@ -67,7 +67,7 @@ module _ {X : Type 0} (size : X → ℕ) (none : X) (nothing : size none ≡ 0) 
   within_or things number = by_found (λ there. size (unwrap_or there none) ≤ sum (map (λ entry. size entry.1) things)) (get things number)
       (λ is. omega (arith, nothing)) (λ thing is. within_sum_of size things number thing is)
 
--- where no thing is greater after a change, neither is the sum
+-- if no thing is greater after a change, neither is the sum
 pub sum_changed : {X : Type 0} (size : X → ℕ) (change : ℕ → X → X) → ((number : ℕ) (thing : X) → size (change number thing) ≤ size thing)
     → (things : NumberMap X) → sum_by (λ entry. size entry.1) (changed_each change things) ≤ sum_by (λ entry. size entry.1) things
 sum_changed size change less [] = omega arith

@@ -28,7 +28,7 @@ pub is_below : (x y : ℕ) → T (is_lt (nat_cmp x y)) → x < y
 is_below x y h = grind (arith, nat_cmp, is_lt, ranked)
 
 module _ {X : Type 0} where
-  -- a number that is found is above one that is below all
+  -- a number that is found is above a number that is below all
   pub above_all : (n : ℕ) (things : NumberMap X) (q : ℕ) (x : X) → T (below_all nat_cmp n things) → get things q ≡ Some x → n < q
   above_all n [] q x below found = absurd (cc found)
   above_all n (thing ∷ things) q x below found =
@@ -48,11 +48,11 @@ module _ {X : Type 0} where
       → get (thing ∷ things) q ≡ Some x
   get_later thing things q x order found = grind (arith, above_all, first, below_all, nat_cmp, cond-false, eq_by_cmp, unsigned_tied, ne_eqb)
 
-  -- what stands behind the first pair of a map in order is in order
+  -- what follows the first pair of a map in order is in order
   pub order_tail : (thing : ℕ × X) (things : NumberMap X) → IsInOrder (thing ∷ things) → IsInOrder things
   order_tail thing things order = second (below_all nat_cmp thing.0 things) _ order
 
-  -- the numbers behind one that is below all are greater
+  -- all numbers are greater than a number that is below all
   all_above : (n : ℕ) (things : NumberMap X) → T (below_all nat_cmp n things) → All (λ thing. n + 1 ≤ thing.0) things
   all_above n [] below = All-nil _
   all_above n (thing ∷ things) below =
@@ -113,7 +113,7 @@ module _ {X : Type 0} where
   found_each Fits things number each =
       by_found (λ found. IfSome found (Fits number)) (get things number) (λ is. tt) (λ thing is. each number thing is)
 
-  -- and so has what is looked up, where what stands for none has it
+  -- and so has what is looked up, if what is used for none has it
   pub each_or : (Fits : ℕ → X → Type 0) (none : X) (things : NumberMap X) (number : ℕ) → Fits number none → EachIn Fits things
       → Fits number (get_or none things number)
   each_or Fits none things number it each =
@@ -121,7 +121,7 @@ module _ {X : Type 0} where
 
 -- ---- each thing changed
 
--- what is found in a map where each thing was changed
+-- what is found in a map of which each thing was changed
 pub found_changed : {X Y : Type 0} (change : ℕ → X → Y) (things : NumberMap X) (q : ℕ)
     → get (changed_each change things) q ≡ option_map (change q) (get things q)
 found_changed change [] q = refl

@@ -28,7 +28,7 @@ numbers_are thing (number ∷ list) = ap (λ (rest : List ℕ). number ∷ rest)
 
 -- ---- the numbers of a map
 
--- a number is among those of a map where something stands under it
+-- a number is among those of a map if something is under it
 pub among_numbers : {X : Type 0} (things : NumberMap X) (number : ℕ) → is_among number (numbers things) ≡ is_some (get things number)
 among_numbers [] number = refl
 among_numbers (first ∷ rest) number =
@@ -71,7 +71,7 @@ range_order start (suc count) (thing ∷ things) are =
 pub numbered_order : {X : Type 0} (things : NumberMap X) (count : ℕ) → numbers things ≡ range_with_len 1 count → IsInOrder things
 numbered_order things count are = range_order 1 count things are
 
--- a map in order has the same numbers when something else stands under one of them
+-- a map in order has the same numbers when something else is under one of them
 pub numbers_stay : {X : Type 0} (things : NumberMap X) (n : ℕ) (thing : X) → IsInOrder things → is_some (get things n) ≡ true
     → numbers (insert things n thing) ≡ numbers things
 numbers_stay [] n thing order there = absurd (cc there)

@@ -94,7 +94,7 @@ known_order : {limits : Limits} {number : ℕ} {master : Master} (backup segment
     → IsInOrder (told (known_of master.log backup) segment size)
 known_order {master} backup segment size formed = grind (arith, told_in_order, known_of, nothing, get_or_past, cases_lt)
 
--- a backup told that it holds so many bytes of a segment
+-- a backup reported that it holds so many bytes of a segment
 pub formed_with_known : {limits : Limits} {number : ℕ} {master : Master} (backup segment size : ℕ) → IsFormedMaster limits number master
     → IsFormedMaster limits number (with_known master backup segment size)
 formed_with_known {master} backup segment size formed =
@@ -175,7 +175,7 @@ given_up_waits : (it : Tablet) (met : Bool) → side_waits_of (cond met (given_u
 given_up_waits it true = none_waits Role.Absent [] _ (λ sealed. refl)
 given_up_waits it false = omega arith
 
--- a master where each other tablet whose range meets this one is given up
+-- a master at which each other tablet whose range meets this one is given up
 pub formed_others_given_up : {limits : Limits} {number : ℕ} {master : Master} (tablet : ℕ) (range : Range) → IsFormedMaster limits number master
     → IsFormedMaster limits number (with_others_given_up master tablet range)
 formed_others_given_up {limits} {master} tablet range formed =
@@ -188,7 +188,7 @@ formed_others_given_up {limits} {master} tablet range formed =
 
 -- ---- moves
 
--- what holds where no move is made, and of each role that it may lead to, holds of a move that is made where a test holds
+-- what holds if no move is made, and of each role that it may lead to, holds of a move that is made if a test holds
 pub moved_is : (P : Option Handover → Type 0) (test : Bool) (handover : Handover) (role : Option Role) → P None
     → ((r : Role) → role ≡ Some r → P (Some (record handover { role = r }))) → P (cond test (in_role handover role) None)
 moved_is P test handover role none some = grind arith
@@ -221,7 +221,7 @@ after_release _ r is = absurd (cc is)
 
 -- ---- what goes on
 
--- what has a property where nothing goes on has it whatever goes on, where each change that may be made gives it
+-- what has a property if nothing goes on has it whatever goes on, if each change that may be made gives it
 module _ (P : Master → Type 0) (master : Master) (id : ℕ) (tablet : Tablet) (stays : P master) where
   -- a tablet that closes may freeze
   pub freezing_is : (handover : Handover) (term : ℕ)
@@ -251,7 +251,7 @@ module _ (P : Master → Type 0) (master : Master) (id : ℕ) (tablet : Tablet) 
 
 -- ---- a master stays well formed
 
--- the entry that closes the role of a target, where it fits a segment
+-- the entry that closes the role of a target, if it fits a segment
 formed_joined_entry : {limits : Limits} {number : ℕ} {tablet : Tablet} → AreLimits limits → IsFormedTablet limits number tablet
     → FitsSegment (joined_entry tablet) → IsFormedEntry limits (joined_entry tablet)
 formed_joined_entry {tablet} are formed fits = grind (arith, counted_fits, spelled_count, joined_entry, recursion_from_All, w32)
@@ -264,7 +264,7 @@ formed_frozen r is formed there new =
     formed_with_tablet formed (formed_with_handover there (formed_in_role r Role.Frozen is refl refl new))
     (none_waits_in r Role.Frozen _ _ is (λ sealed. refl))
 
--- a target has its closing entry, where each entry of its log fits then
+-- a target has its closing entry, if each entry of its log fits then
 pub formed_closed : {limits : Limits} {number : ℕ} {master : Master} {id : ℕ} {tablet : Tablet} {place : ℕ} (r : Role) → r ≡ Role.Joining (Some place)
     → AreLimits limits → IsFormedMaster limits number master → IsFormedTablet limits id tablet
     → All FitsSegment (master.log.entries ++ joined_entry tablet ∷ [])

@@ -16,9 +16,9 @@ use Rattle.rk_inv_wellformed.proofs.masters.Changes.{formed_going_on}
 use Rattle.rk_inv_wellformed.proofs.masters.Requests.{outcome_told}
 use Rattle.rk_inv_wellformed.proofs.masters.Tablets.{formed_noting, waits_changed}
 
--- ---- what entries tell
+-- ---- what entries record
 
--- the ends that a well formed entry tells
+-- the ends that a well formed entry records
 pub told_formed : (limits : Limits) (entry : Entry) → IsFormedEntry limits entry → All (IsFormedEnd limits) (told_by entry)
 told_formed limits entry formed = grind (arith, item_end, refusal_end, by_found, end_of_item, either_way)
 
@@ -39,7 +39,7 @@ item_stays : (master : Master) (entry : Entry) → Stays master (with_entry_item
 item_stays master (Entry.Held held) = record { log = refl; applied = refl }
 item_stays master _ = record { log = refl; applied = refl }
 
--- one more entry is applied, where there is one
+-- one more entry is applied, if there is one
 formed_with_applied : {limits : Limits} {number : ℕ} {master : Master} → IsFormedMaster limits number master
     → master.applied < length master.log.entries → IsFormedMaster limits number (with_applied master)
 formed_with_applied {master} formed more = grind arith
@@ -69,7 +69,7 @@ formed_with_noted {limits} {number} {master} call {end} formed new =
 
 -- ---- entries that are applied
 
--- a call ends as its entry tells
+-- a call ends as its entry records
 formed_ended_call : {limits : Limits} {number : ℕ} {master : Master} {place : ℕ} {call : Call} {end : Ended} → IsMaster limits.masters number
     → IsFormedMaster limits number master → IsFormedCall limits (length master.log.entries) place call → IsFormedEnd limits end
     → IsFormedWork limits number 1 (ended_call master place call end)
@@ -86,7 +86,7 @@ formed_with_ended {limits} place (Some call) (end ∷ ends) there formed waits e
     formed_ended_call there formed waits (All-head (IsFormedEnd limits) end ends each)
 formed_with_ended place _ _ there formed waits each = formed_changed formed
 
--- the next entry is applied, where there is one
+-- the next entry is applied, if there is one
 pub formed_apply_entry : {limits : Limits} {number : ℕ} {master : Master} (entry : Entry) → IsMaster limits.masters number
     → IsFormedMaster limits number master → IsFormedEntry limits entry → master.applied < length master.log.entries
     → IsFormedWork limits number 1 (apply_entry master entry)
@@ -101,7 +101,7 @@ ended_stays : (master : Master) (place : ℕ) (call : Option Call) (ends : List 
 ended_stays master place (Some call) (end ∷ ends) = record { log = refl; applied = refl }
 ended_stays master place _ _ = record { log = refl; applied = refl }
 
--- these entries are applied, where as many are not
+-- these entries are applied, if as many are not
 pub formed_apply_entries : {limits : Limits} {number : ℕ} (entries : List Entry) {master : Master} → IsMaster limits.masters number
     → IsFormedMaster limits number master → All (IsFormedEntry limits) entries → master.applied + length entries ≤ length master.log.entries
     → IsFormedWork limits number (length entries) (apply_entries master entries)
@@ -115,7 +115,7 @@ formed_apply_entries {limits} {number} (entry ∷ entries) {master} there formed
     (omega (arith, item.applied, ended.applied, ap (λ log. length log.entries) item.log, ap (λ log. length log.entries) ended.log)))
     (omega arith)
 
--- ---- what a backup tells
+-- ---- what a backup reports
 
 -- the entries that are newly held are no more than those that are not applied
 newly_few : (master : Master) → master.applied ≤ length master.log.entries → master.applied + length (newly_held master) ≤ length master.log.entries
@@ -135,7 +135,7 @@ formed_newly_applied {limits} {number} {master} backup stored there formed =
     (All-take (IsFormedEntry limits) (committed known.log) known.log.entries knows.written))
     few)
 
--- what a master makes of what a backup tells is well formed
+-- what a master makes of what a backup reports is well formed
 pub formed_stored : {limits : Limits} {number : ℕ} {master : Master} (backup : ℕ) (stored : Stored) (over : Option Overreach) → AreLimits limits
     → IsMaster limits.masters number → IsFormedMaster limits number master
     → WorkFits limits number (length master.log.entries) (stored_taken master backup stored over)

@@ -19,7 +19,7 @@ use Rattle.rk_inv_wellformed.proofs.masters.MergedOnce.{none_twice}
 use Rattle.rk_inv_wellformed.proofs.masters.Tablets.{IsFormedHandover, counter_at, formed_pulling_from, formed_tablet, handover_of}
 use Rattle.rk_inv_wellformed.proofs.masters.Tablets.{rest_at, rest_of, tablet_with_same, formed_in_role, none_waits_in, role_there}
 
--- where a term has stood, 1 has
+-- if a term is at most the greatest number, 1 is
 pub one_stood : (limits : Limits) (n : ℕ) → IsFormedNumber limits n → 1 ≤ limits.top
 one_stood limits n stood = omega arith
 
@@ -98,7 +98,7 @@ module _ (limits : Limits) (number : ℕ) (master : Master) (tenure : Tenure) (t
   abbrev it : Tablet
   it = tablet_at master tenure.tablet
 
-  -- the tablet closes, and freezes where nothing of it is staged
+  -- the tablet closes, and freezes if nothing of it is staged
   formed_closing : IsFormedMaster limits number (handing.closing master tenure.tablet (closed it.handover tenure.term))
   formed_closing = moved_is (λ moved. IsFormedMaster limits number (handing.closing master tenure.tablet moved)) (nat_lt it.handover.term tenure.term)
       (record it.handover { term = tenure.term }) (role_closed it.handover.role) formed
@@ -126,7 +126,7 @@ module _ (limits : Limits) (number : ℕ) (master : Master) (tenure : Tenure) (t
       (tenure_fits are told, from_zero64 (counted_fits are its.counter), ends_are_lawful limits (ends_of it.completions) its.ended)
       (assumption (ends_are_formed limits it.completions its.order its.ended))
 
-  -- a source that is frozen at this term tells it
+  -- a source that is frozen at this term reports it
   formed_transferring : AreLimits limits → IsMaster limits.masters number → IsFormedWork limits number 1 (handing.transferring master tenure)
   formed_transferring are there =
       grind (arith, cond_both, formed_sending, transfer_is_formed, tablet_there, role_there, is_frozen, formed_changed)

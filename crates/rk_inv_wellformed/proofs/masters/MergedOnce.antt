@@ -11,7 +11,7 @@ use Rattle.rk_inv_wellformed.proofs.maps.{all_given, by_found}
 
 -- ---- ends of distinct clients
 
--- where there is no end no client stands twice
+-- if there is no end, no client is there twice
 pub none_twice : AreOfDistinctClients []
 unfolding IsDistinct
 none_twice = tt
@@ -28,7 +28,7 @@ once_more end list apart once = (
   once,
 )
 
--- ---- what the place of an end tells
+-- ---- what the place of an end shows
 
 -- an end of a list is outrun by no end that none of the list outruns
 IsHeldBy : List Ended → Ended → Type 0
@@ -81,7 +81,7 @@ placed_each P Q S all later seen (end ∷ ends) start next holds each =
     (holds seen end start (All-head Q end ends each) (has_place all later seen end is)) rest)
     (λ is. rest)
 
--- an end was seen: who tells none of the seen calls does not tell its call
+-- an end was seen: an end that is of none of the seen calls is not of its call
 WasSeen : Ended → List Ended → Type 0
 WasSeen end seen = (other : Ended) → list_any (is_same_call other) seen ≡ false → is_same_call other end ≡ false
 
@@ -108,7 +108,7 @@ apart_behind all later seen ends end is_last was each =
     (calls_turned other.client end.client other.seq end.seq (before other place.seen_not)))
     each
 
--- an end of a later member, which does not tell the call of an end
+-- an end of a later member, which is not of the call of an end
 record IsOther (all : List Ended) (end other : Ended) : Type 0 where
   held : IsHeldBy all other
   apart : is_same_call end other ≡ false
@@ -158,7 +158,7 @@ members_once all [] each = none_twice
 members_once all (ends ∷ later) each = placed_once all later [] ends (All-head (All (IsHeldBy all)) ends later each)
     (All-tail (All (IsHeldBy all)) ends later each) (members_once all later (All-tail (All (IsHeldBy all)) ends later each))
 
--- ---- what a merge tells
+-- ---- what a merge records
 
 client_kept : (end : Ended) (last : Option Completion) → (first_told end last).client ≡ end.client
 client_kept end last = by_found (λ found. (first_told end found).client ≡ end.client) last (λ none. refl) (λ some is. refl)

@@ -104,7 +104,7 @@ floor_rises floor _ = omega arith
 pub floor_first : (list : List Entry) → 1 ≤ floor_of list
 floor_first list = fold_keeps (λ floor. 1 ≤ floor) floor_by list 1 (omega arith) (λ floor entry some. omega (arith, some, floor_rises floor entry))
 
--- where the entries are well formed it is at most one above the greatest number
+-- if the entries are well formed, it is at most one above the greatest number
 floor_within_by : (limits : Limits) (floor : ℕ) (entry : Entry) → floor ≤ limits.top + 1 → IsFormedEntry limits entry → floor_by floor entry ≤ limits.top + 1
 floor_within_by limits floor entry below formed = grind arith
 
@@ -125,7 +125,7 @@ by_place_formed P all (ends ∷ later) formed =
 told_all : (limits : Limits) (list : List Entry) → All (IsFormedEntry limits) list → All (IsFormedEnd limits) (told list)
 told_all limits list all = all_flat (IsFormedEnd limits) told_by list (λ place other within. told_formed limits _ (all place other within))
 
--- the end that counts for a call is one of those that were told
+-- the end that counts for a call is one of those that were recorded
 first_formed : {limits : Limits} (all : List Ended) {end : Ended} → All (IsFormedEnd limits) all → IsFormedEnd limits end → IsFormedEnd limits (first_told end (get (completions_from [] all) end.client))
 first_formed {limits} all {end} formed it =
     by_found (λ last. IsFormedEnd limits (first_told end last)) (get (completions_from [] all) end.client) (λ is. it)
@@ -239,7 +239,7 @@ module _ (limits : Limits) (number : ℕ) (master : Master) (id : ℕ) (merged :
         served = omega arith;
       }
 
--- what is made of something is well formed, where the counters that it raises keep to the limits
+-- what is made of something is well formed, if the counters that it raises keep to the limits
 abbrev RiseFits : Limits → Limits → ℕ → Worked → Type 0
 RiseFits small limits number worked = Rises small limits worked → IsFormedWork limits number 1 worked
 

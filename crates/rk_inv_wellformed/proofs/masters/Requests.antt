@@ -71,7 +71,7 @@ IsFormedChoice limits master (Writes number) = IsFormedTablet limits number (tab
 IsFormedChoice limits master (Refuses found absent) =
     IsNumber w64 0 found × (found ≤ limits.top) × (IsTrue absent → found ≡ 0)
 
--- what a read tells
+-- what a read returns
 read_formed : (limits : Limits) (live : Option (ℕ × List ℕ)) → IsFormedLive limits live → IsLawfulAnswer (Answer.Done (read_of live))
 read_formed limits None formed = tt
 read_formed limits (Some found) formed = (from_zero64 formed.fits, formed.value)
@@ -141,11 +141,11 @@ choice_formed limits number master call formed = go (serving master call.table c
 
 -- ---- what a choice changes
 
--- how a call ended, as it is told
+-- how a call ended, as it is answered
 pub outcome_told : (end : End) → IsLawfulOutcome end → IsLawfulAnswer (Answer.Done (outcome_of end))
 outcome_told end lawful = grind (arith, from_zero64)
 
--- the counter of a tablet that is so keeps to the limits where those of the master do
+-- the counter of a tablet that is so keeps to the limits if those of the master do
 pub counter_with_tablet : (limits : Limits) (master : Master) (id : ℕ) (tablet : Tablet)
     → All (λ counter. counter ≤ limits.top) (counters_of (with_tablet master id tablet)) → tablet.handover.counter ≤ limits.top
 counter_with_tablet limits master id tablet counters =
@@ -153,7 +153,7 @@ counter_with_tablet limits master id tablet counters =
     (all_before (λ counter. counter ≤ limits.top) (λ entry. entry.1.handover.counter) (insert master.tablets id tablet) counters)
     id tablet (get_same master.tablets id tablet id refl)
 
--- where a choice writes, the counter of its tablet is not the greatest number
+-- if a choice writes, the counter of its tablet is not the greatest number
 abbrev HasNext : Limits → Master → Choice → Type 0
 HasNext limits master (Writes id) = (tablet_at master id).handover.counter < limits.top
 HasNext limits master choice = ⊤

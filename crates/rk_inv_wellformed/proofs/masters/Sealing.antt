@@ -41,7 +41,7 @@ formed_with_pulled {limits} {pulling} worker {item} formed new =
       formed,
     )
 
--- a master, and one of its tablets, that are well formed, where that tablet waits for no side segment
+-- a master, and one of its tablets, that are well formed, if that tablet waits for no side segment
 pub record IsFormedAt (limits : Limits) (number id : ℕ) (master : Master) : Type 0 where
   pub master_is : IsFormedMaster limits number master
   pub tablet_is : IsFormedTablet limits id (tablet_at master id)
@@ -64,7 +64,7 @@ formed_replayed {id} worker {master} {item} formed new = formed_put (formed_with
     (formed_with_pulled worker formed.tablet_is.pulled new) formed.tablet_is.source)
     formed.waits
 
--- items are replayed where they are newer, one after the other
+-- items are replayed if they are newer, one after the other
 pub formed_replay : {limits : Limits} {number id : ℕ} (worker : ℕ) (items : List Held) {master : Master} → IsFormedAt limits number id master → All (IsFormedHeld limits) items → IsFormedAt limits number id (replay master id worker items)
 formed_replay {limits} {number} {id} worker items {master} formed new =
     fold_keeps_all (IsFormedAt limits number id) (IsFormedHeld limits) (replay_one id worker) items master formed new
@@ -171,7 +171,7 @@ sealed_pulling pulling numbers = record pulling { hashes = no_hashes; sides = []
 joined_sides : (master : Master) (id : ℕ) (tablet : Tablet) (numbers : List ℕ) → (joining_by master id tablet numbers).log.sides ≡ master.log.sides
 joined_sides master id tablet numbers = grind (arith, by_found, closing_entry, joining_at)
 
--- a target joins, where there are side segments enough for what it waits for then
+-- a target joins, if there are side segments enough for what it waits for then
 formed_joining : {limits : Limits} {number id : ℕ} {master : Master} {tablet : Tablet} (numbers : List ℕ) → AreLimits limits
     → IsFormedMaster limits number master → IsFormedTablet limits id tablet
     → tablet.pulling.sealed ≡ numbers → side_waits master.tablets + length numbers ≤ length master.log.sides

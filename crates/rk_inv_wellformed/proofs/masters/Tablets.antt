@@ -45,7 +45,7 @@ pub waits_inserted : (master : Master) (id : ℕ) (tablet : Tablet) → IsInOrde
     → side_waits (insert master.tablets id tablet) + side_waits_of (tablet_at master id) ≡ side_waits master.tablets + side_waits_of tablet
 waits_inserted master id tablet order = omega (arith, sum_put side_waits_of no_tablet refl master.tablets id tablet order, sum-map {X = ℕ × Tablet})
 
--- where no tablet waits for more, all of them do not
+-- if no tablet waits for more, neither do all of them together
 pub waits_changed : (change : ℕ → Tablet → Tablet)
     → ((number : ℕ) (tablet : Tablet) → side_waits_of (change number tablet) ≤ side_waits_of tablet)
     → (tablets : NumberMap Tablet) → side_waits (changed_each change tablets) ≤ side_waits tablets
@@ -53,7 +53,7 @@ waits_changed change less tablets = sum_changed side_waits_of change less tablet
 
 -- ---- parts of a tablet
 
--- a handover of a tablet that pulls, where it receives, from this master
+-- a handover of a tablet that pulls, if it receives, from this master
 pub record IsFormedHandover (limits : Limits) (source : ℕ) (handover : Handover) : Type 0 where
   pub term : IsFormedNumber limits handover.term
   pub place : IsNumber w64 0 (place_in handover.role)
@@ -61,7 +61,7 @@ pub record IsFormedHandover (limits : Limits) (source : ℕ) (handover : Handove
   pub counter : IsFormedNumber limits handover.counter
   pub source_is : is_receiving handover.role ≡ true → IsMaster limits.masters source
 
--- what a tablet has beside its handover, also one that a master does not know
+-- what a tablet has beside its handover, also a tablet that a master does not know
 pub record IsFormedRest (limits : Limits) (tablet : Tablet) : Type 0 where
   pub order : IsInOrder tablet.completions
   pub ended : All (IsFormedEnd limits) (ends_of tablet.completions)
@@ -70,7 +70,7 @@ pub record IsFormedRest (limits : Limits) (tablet : Tablet) : Type 0 where
   pub merged : All (IsFormedEnd limits) tablet.merged_ends
   pub merged_once : AreOfDistinctClients tablet.merged_ends
 
--- a tablet is well formed where its number, its handover and the rest are
+-- a tablet is well formed if its number, its handover and the rest are
 pub formed_tablet : {limits : Limits} {number : ℕ} (tablet : Tablet) → IsNumber w32 1 number
     → IsFormedHandover limits tablet.pulling.source tablet.handover → IsFormedRest limits tablet → IsFormedTablet limits number tablet
 formed_tablet tablet is handover rest = assumption
@@ -142,7 +142,7 @@ pub formed_wanting : {hashes : Hashes} {hash : ℕ} → AreFormedHashes hashes �
 formed_wanting {hashes} {hash} formed new = either_way AreFormedHashes (is_known hashes hash) formed
     (record { wanted = All-push (IsNumber w64 0) hashes.wanted hash formed.wanted new; outstanding = formed.outstanding })
 
--- the wanted hashes become a batch, where none is outstanding
+-- the wanted hashes become a batch, if none is outstanding
 pub formed_batched : {hashes : Hashes} → AreFormedHashes hashes → AreFormedHashes (batched hashes)
 formed_batched {hashes} formed = go hashes.outstanding
   where
@@ -176,7 +176,7 @@ formed_with_outstanding {tablet} formed =
 
 -- ---- the tablet under a number
 
--- the one that is found
+-- the tablet that is found
 pub tablet_found : (master : Master) (number : ℕ) (tablet : Tablet) → get master.tablets number ≡ Some tablet → tablet_at master number ≡ tablet
 tablet_found master number tablet is = ap (λ (found : Option Tablet). unwrap_or found no_tablet) is
 

@@ -107,7 +107,7 @@ module _ (limits : Limits) (number : ℕ) (master : Master) (are : AreLimits lim
       → All (IsFormedMessage limits) (append_of master backup piece)
   append_formed backup piece is told = grind (arith, append_to, sent)
 
-  -- what is sent to the backups, where each segment can be told
+  -- what is sent to the backups, if a message can carry each segment
   appends_formed : All IsTold (segments master.log) → All (IsFormedMessage limits) (appends master)
   appends_formed told = all_flat (IsFormedMessage limits) (λ backup. append_of master backup (pending master.log backup))
       (range_with_len 1 (length master.log.known))
@@ -133,7 +133,7 @@ module _ (limits : Limits) (number : ℕ) (master : Master) (are : AreLimits lim
         (tenure_fits are its_tenure, recursion_from_All (IsNumber w64 0) (hash ∷ more) each) its_tenure)
         (All-nil (IsFormedMessage limits))
 
-    -- a rebuilding master whose closing entry is applied tells its place and the ends
+    -- a rebuilding master whose closing entry is applied reports its place and the ends
     rebuilt_formed : {from : ℕ} (entry : ℕ) → IsNumber w64 0 from → IsFormedWork limits number 2 (rebuilt_duty master id tablet from entry)
     rebuilt_formed {from} entry place = either_way (IsFormedWork limits number 2) (nat_lt entry master.applied)
         (tells Node.Coordinator _ tt (assumption (tenure_fits are its_tenure, ends_are_lawful limits tablet.merged_ends held.merged))
@@ -220,7 +220,7 @@ formed_turn {limits} {number} {master} are there formed room =
     (All_pairs (IsFormedTablet limits) master.tablets formed.tablets_order formed.tablets))
     (omega (arith, tablets_few formed, formed.known, are.backups))
 
--- what a master makes of each message has what work has that is well formed within wider limits, once its counters keep to them, where what
+-- what a master makes of each message has what work has that is well formed within wider limits, once its counters keep to them, if what
 -- it makes of a Stored and of a Pulled has it
 module _ (P : Worked → Type 0) (small limits : Limits) (number : ℕ) (master : Master) (more : IsMore small limits) (are : AreLimits limits)
     (there : IsMaster limits.masters number) (formed : IsFormedMaster small number master) (room : HasLogRoom master)

@@ -18,7 +18,7 @@ pub record AreLimits (limits : Limits) : Type 0 where
   pub top : limits.top < MOST_NUMBER
   pub clients : length limits.clients ≤ MOST_CLIENTS + MOST_BASE_CLIENTS
 
--- a master's numbers fit: what an event must leave, and what it leaves where code tests before it acts
+-- a master's numbers fit: what an event must leave, and what it leaves if code tests before it acts
 pub record HasRoomFor (limits : Limits) (master : Master) : Type 0 where
   pub room : HasRoomIn master
   pub bytes : log_bytes master < MOST_BYTES
@@ -40,7 +40,7 @@ pub record IsFormedWork (limits : Limits) (number count : ℕ) (worked : Worked)
   pub few : length worked.sends ≤ count
   pub served : length worked.served ≤ count
 
--- what is made of something is well formed, where the master has room after it
+-- what is made of something is well formed, if the master has room after it
 abbrev pub WorkFits : Limits → ℕ → ℕ → Worked → Type 0
 WorkFits limits number count worked = HasRoomFor limits worked.master → IsFormedWork limits number count worked
 
@@ -81,11 +81,11 @@ formed_then limits number one more count first next before after few = record {
 
 -- ---- numbers
 
--- a number up to the greatest one that stands fits eight bytes
+-- a number up to the greatest so far fits eight bytes
 pub number_fits : {limits : Limits} (least n : ℕ) → AreLimits limits → least ≤ n → n ≤ limits.top → IsNumber w64 least n
 number_fits least n are from within = record { least_is = from; fits = omega (arith, are.top) }
 
--- one that counts from 1
+-- a number that counts from 1
 pub counted_fits : {limits : Limits} {n : ℕ} → AreLimits limits → IsFormedNumber limits n → IsNumber w64 1 n
 counted_fits {n} are formed = number_fits 1 n are formed.first formed.last
 

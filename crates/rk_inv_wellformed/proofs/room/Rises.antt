@@ -40,7 +40,7 @@ keeps_to_top w formed = record {
       (all_back (λ (n : ℕ). n ≤ w.top) (w.wire.sent ∷ last_stamp w.ledger.journal ∷ (stamps_seen w ++ terms_in w)) (counters_in w) formed.standing);
 }
 
--- where they keep to a limit, the greatest is not above it
+-- if they keep to a limit, the greatest is not above it
 pub top_within : (limit : ℕ) (w : World) → KeepsTo limit w → (with_top w).top ≤ limit
 top_within limit w keeps =
     let all : All (λ n. n ≤ limit) (standing w) =
@@ -149,7 +149,7 @@ stamp_ended : (limit most : ℕ) (ledger : Ledger) (ends : List Ended) → limit
 stamp_ended limit most ledger ends greater all last = stamp_folded with_end limit (λ now end. ended_keeps now.clients now end refl)
     (stamp_ended_once limit) most ledger ends greater all last
 
--- how many ends a rebuild tells, if there is one
+-- how many ends a rebuild reports, if there is one
 abbrev pub ends_in : Option Rebuilt → ℕ
 ends_in None = 0
 ends_in (Some rebuilt) = length rebuilt.ends
@@ -169,7 +169,7 @@ module _ (w : World) (formed : IsWellFormed w) where
   keeps_at : (limit : ℕ) → w.top ≤ limit → KeepsTo limit w
   keeps_at limit up = keeps_to_more w.top limit w up (keeps_to_top w formed)
 
-  -- where a master has worked, by what its counters rise, by its served calls and by its messages
+  -- when a master has worked, by what its counters rise, by its served calls and by its messages
   pub top_after_work : (rise number seen : ℕ) (worked : Worked) → seen ≤ w.top + rise → All (λ n. n ≤ w.top + rise) (counters_of worked.master) → (after_work w number seen worked).top ≤ w.top + rise + length worked.served + length worked.sends
   top_after_work rise number seen worked within counters =
       let ledger = ledger_after w.ledger number seen worked in
@@ -189,7 +189,7 @@ module _ (w : World) (formed : IsWellFormed w) where
         top_within (most + length sends) (with_all_sent now sends) (keeps_with_sent sends keeps),
       )
 
-  -- where the coordinator has worked, by what its terms rise, by the ends that it took and by its messages
+  -- when the coordinator has worked, by what its terms rise, by the ends that it took and by its messages
   pub top_after_coordinator : (rise : ℕ) (coordinator : Coordinator) (rebuilt : Option Rebuilt) (sends : List Message) → All (λ row. row.term ≤ w.top + rise) coordinator.rows → (after_coordinated w coordinator rebuilt sends).top ≤ w.top + rise + ends_in rebuilt + length sends
   top_after_coordinator rise coordinator rebuilt sends terms =
       let ledger = with_rebuilt w.ledger rebuilt in
@@ -202,7 +202,7 @@ module _ (w : World) (formed : IsWellFormed w) where
       (keeps_with_coordinator coordinator
       (all_still_below (λ row. row.term) (w.top + rise) most coordinator.rows (omega arith) terms) more)))
 
-  -- and by what terms rise where nothing is sent
+  -- and by what terms rise if nothing is sent
   pub top_with_coordinator : (rise : ℕ) (coordinator : Coordinator) → All (λ row. row.term ≤ w.top + rise) coordinator.rows → (quietly (with_coordinator w coordinator)).world.top ≤ w.top + rise
   top_with_coordinator rise coordinator terms = top_within (w.top + rise) (with_coordinator w coordinator)
       (keeps_with_coordinator coordinator terms (keeps_at (w.top + rise) (omega arith)))

@@ -32,7 +32,7 @@ use Rattle.rk_inv_wellformed.proofs.room.Rises.{keeps_with_ledger, keeps_with_ma
 use Rattle.rk_inv_wellformed.proofs.room.Rises.{top_after_work, top_with_coordinator, top_within}
 use Rattle.rk_inv_wellformed.proofs.lanes.Happenings.{formed_accepts, formed_asks}
 
--- where what stands keeps to the greatest number, that stays
+-- if the numbers of a world keep to the greatest one before, their greatest still fits
 top_stays : (w : World) {after : World} → KeepsTo w.top after → HasRoom w → (with_top after).top < MOST_NUMBER
 top_stays w {after} keeps room = omega (arith, top_within w.top after keeps, room.number)
 
@@ -62,7 +62,7 @@ work_fits {w} low number seen {worked} within few =
     most_fits w.top (after_work w number seen worked).top 1 (length worked.served) (length worked.sends) low.top (omega arith) few.served few.sends
     (top_after_work w low.formed 1 number seen worked within few.counters)
 
--- what a request has seen has stood; and where no client sends it nothing is served
+-- what a request has seen is at most the greatest number; and if no client sends it, nothing is served
 told_fits : {w : World} (low : IsLow w) (number : ℕ) (sender : Node) (body : Body) → IsFormedBody (limits_of w) sender body
     → IsFewWork (w.top + 1) (told_master (master_at w number) sender body) → (worked_at w number (seen_in body) (told_master (master_at w number) sender body)).world.top < MOST_NUMBER
 told_fits low number (Node.Client client) (Body.Request request) says few = work_fits low number request.seen (omega (arith, says.seen)) few

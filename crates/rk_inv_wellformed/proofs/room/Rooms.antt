@@ -11,7 +11,7 @@ use Rattle.rk_inv_wellformed.proofs.maps.{by_found, either_way}
 use Rattle.rk_inv_wellformed.proofs.room.Rises.{HaveSeen, KeepsTo, all_inserted, keeps_to_more, keeps_to_top, keeps_with_ledger}
 use Rattle.rk_inv_wellformed.proofs.room.Rises.{keeps_with_sent, top_within}
 
--- where a client's turn is not refused, neither its session nor the lane is worn
+-- if a client's turn is not refused, neither its session nor the lane is worn
 record IsFreshTurn (w : World) (session : Session) : Type 0 where
   lane : IsFresh w
   seen : session.seen < WORN_NUMBER
@@ -74,7 +74,7 @@ room_asking w session none formed room =
         omega (arith, fresh_turn w session none, top_after_asking session call turned formed) in
         assumption
 
--- so it is where the client's turn is not refused
+-- so it does if the client's turn is not refused
 pub room_ask : {w : World} (session : Session) (visited : Visited) → ask w session ≡ Ok visited → IsWellFormed w → HasRoom w → HasRoom visited.world
 room_ask {w} session visited asked formed room = grind (arith, by_found, ask_by, ask_refusal, asking, room_asking)
 

@@ -56,7 +56,7 @@ pub counters_with_tablet : (most : ℕ) (master : Master) (id : ℕ) (tablet : T
 counters_with_tablet most master id tablet each new = counters_from_counts most (with_tablet master id tablet)
     (All_insert (λ entry. entry.1.handover.counter ≤ most) master.tablets id tablet (counts_from_counters most master each) new)
 
--- the counter of the tablet under a number; that of one that is not there is 1
+-- the counter of the tablet under a number; that of a tablet that is not there is 1
 pub counter_within : (most : ℕ) (master : Master) (id : ℕ) → 1 ≤ most → CountersWithin most master → (tablet_at master id).handover.counter ≤ most
 counter_within most master id some each =
     each_or (λ number tablet. tablet.handover.counter ≤ most) no_tablet master.tablets id some
@@ -154,7 +154,7 @@ module _ (limits : Limits) (number : ℕ) (master : Master) (there : IsMaster li
 
 -- ---- the coordinator
 
--- a rebuild that it takes tells no more ends than there are clients
+-- a rebuild that it takes reports no more ends than there are clients
 pub ends_few : {limits : Limits} (rebuilt : Option Rebuilt) → AreLimits limits → IfSome rebuilt (IsTaken limits) → ends_in rebuilt ≤ MOST_CLIENTS + MOST_BASE_CLIENTS
 ends_few rebuilt are taken = grind (arith, once_few)
 
