@@ -1,4 +1,4 @@
--- What becomes of told segments where bytes come for one: of segments that are not told nothing is owed.
+-- What becomes of reported segments when bytes come for one of them: of segments that are not reported nothing is owed.
 use Rattle.std.proofs.Common.{◌≡◌, ℕ, ◌-◌, ◌<◌, ◌≤◌, Bool, true, false, cond, leb, List, [], ◌∷◌, Option, Some, None, Ok, Err, length, take, drop, refl, sym, ap, ◌∙◌, arith}
 use Rattle.std.specs.Prelude.{◌&&◌, IfSome, bytes_eq}
 use Rattle.std.proofs.lemmas.Bool.{and_left, cond-true, cond-false, le-leb, lt-leb}

@@ -1,4 +1,4 @@
--- Words of the crates below that the crates above take from here, so that these need not stand on those.
+-- Words of the crates below that the crates above take from here, so that they need not depend on those.
 pub use Rattle.rk_inv_base.proofs.views.Among.{mapped}
 pub use Rattle.rk_inv_rows.proofs.finished.JoinedDelivered.{finishes}
 pub use Rattle.rk_inv_rows.proofs.finished.OnlyJoined.{only_joined}

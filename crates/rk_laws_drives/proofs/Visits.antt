@@ -1,4 +1,4 @@
--- A client whose session has no outstanding call leaves a cluster as it was, where it takes its turn and where it takes a message.
+-- A client whose session has no outstanding call leaves a cluster as it was, when it takes its turn and when it takes a message.
 use Rattle.std.proofs.Common.{◌≡◌, ℕ, cond, List, Option, Some, None, Ok, refl, ap, ◌∙◌}
 use Rattle.std.specs.Prelude.{unwrap_or}
 use Rattle.std.proofs.lemmas.List.{set-get_or}

@@ -1,4 +1,4 @@
--- What an answer counts: an answer to its call accepts one record more, which was not accepted before, and gives the client one receipt more.
+-- What an answer counts: an answer to a client's call accepts one more record, not accepted before, and gives the client one more receipt.
 use Rattle.std.proofs.Common.{◌≡◌, ℕ, zero, suc, ◌+◌, ◌<◌, Bool, true, false, cond, List, [], ◌∷◌, Option, Some, None, length-append, refl}
 use Rattle.std.proofs.Common.{sym, ap, subst, ◌∙◌, arith, Contains, IfSome, slice_get}
 use Rattle.rk_inv_base.proofs.Words.{All-contains, sum_by-cons, get, Call, Outcome, Placed, Reply, Body, Message, Visited, accepting}

@@ -1,4 +1,4 @@
--- What a client's turn counts: its call, where it was not asked in the lane before.
+-- What a client's turn counts: its call, if that was not asked in the lane before.
 use Rattle.std.proofs.Common.{arith, ◌≡◌, ◌+◌, true, cond, Option, Some, ap}
 use Rattle.rk_inv_base.proofs.Words.{cases_eq, get_other, get_same, Call, Located, Body, Message, asking, asking_by, fits_with, is_asked}
 use Rattle.rk_inv_base.proofs.Words.{ledger_asked, ledger_requested, ClientTurn, Session, session_turn, turn_of, Ledger, is_added}

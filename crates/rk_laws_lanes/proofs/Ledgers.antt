@@ -1,4 +1,4 @@
--- What an event leaves of a ledger: the calls that were asked and, but where one is added, the clients; and it accepts no record.
+-- What an event leaves of a ledger: the calls that were asked and, unless a client is added, the clients; and it accepts no record.
 use Rattle.std.proofs.Common.{◌≡◌, ℕ, Bool, false, cond, List, [], ◌∷◌, Option, Some, None, refl, ap, arith, subst, is_some, All}
 use Rattle.rk_inv_base.proofs.Words.{All-head, All-tail, sum_by-append, sum_by-cons, NumberMap, get, Ended, Placed, Rebuilt, Called}
 use Rattle.rk_inv_base.proofs.Words.{coordinator_step, Ledger, with_all_served, with_rebuilt, master_step, master_turn, happened, seen_in}

@@ -1,4 +1,4 @@
--- Whatever happens in a lane, its wire changes by messages that are sent, and by one that is forgotten.
+-- Whatever happens in a lane, its wire changes only by messages that are sent, and by a message that is forgotten.
 use Rattle.std.proofs.Common.{ℕ, ◌+◌, Bool, true, false, cond, List, [], ◌∷◌, fold, map, Option, Some, None}
 use Rattle.rk_world.specs.declared.event.Taken.{Taken}
 use Rattle.rk_types.specs.NumberMap.{get}

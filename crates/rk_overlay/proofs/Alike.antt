@@ -1,4 +1,4 @@
--- Lists in which the same stands: plain ones have the same newest items, in whatever order and however often each stands.
+-- Lists with the same members: if they are plain, they have the same newest items, in whatever order and however often each occurs.
 use Rattle.std.proofs.Common.{◌≡◌, ℕ, List, ◌∷◌, ◌++◌, Option, Some, None, refl, sym, ap, ◌∙◌, subst, ⊎_elim}
 use Rattle.std.specs.List.{Contains}
 use Rattle.std.proofs.lemmas.List.Elements.{Contains-append_cases, Contains-append_left, Contains-append_right}

@@ -1,4 +1,4 @@
--- The newest item as the fold finds it, and as what stands in a list.
+-- The newest item as the fold finds it, and by what is in a list.
 use Rattle.std.proofs.Common.{◌≡◌, ℕ, ◌≤◌, true, List, Option, Some, None, refl, sym, ap, ◌∙◌, ⊎_elim, arith}
 use Rattle.std.specs.Prelude.{◌↔◌}
 use Rattle.std.specs.List.{Contains}

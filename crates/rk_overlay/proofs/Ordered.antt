@@ -1,4 +1,4 @@
--- Items in order: an item at its place, what stands in a list then, and that order and what stands make one list.
+-- Items in order: an item at its place, what is in the list then, and that order and members determine the list.
 use Rattle.std.proofs.Common.{arith, ◌≡◌, List, [], ◌∷◌, ◌⊎◌, refl, sym, ap, ◌∙◌, subst, inl, inr, ⊎_elim, rules}
 use Rattle.std.specs.Prelude.{◌↔◌, fold}
 use Rattle.std.specs.BTreeSet.{insert_key}

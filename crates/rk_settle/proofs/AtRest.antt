@@ -1,4 +1,4 @@
--- Where `settle` ends its cluster is at rest.
+-- When `settle` ends, its cluster is at rest.
 use Rattle.rk_settle.proofs.Words.{arith, ◌≡◌, Bool, true, false, List, [], ◌∷◌, ◌++◌, map, refl, sym, ◌∙◌, append_assoc, append-nil}
 use Rattle.rk_settle.proofs.Words.{flat_map, Cluster, Occurrence, Acted, all_acted, is_lost_at_backup, deliver_in_makes, Fate, Course}
 use Rattle.rk_settle.proofs.Words.{act_makes, course_of, is_at_limit, moved, moved_all, moved_by, occurring, occurring_by, round_over}

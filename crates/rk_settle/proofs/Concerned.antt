@@ -1,4 +1,4 @@
--- The lanes that a command on a tablet's migration concerns, one lane after the other, and whether the source or the target has crashed there.
+-- The lanes that a command on a tablet's migration concerns, lane by lane, and whether the source or the target has crashed there.
 use Rattle.rk_settle.proofs.Words.{◌≡◌, ◌+◌, ℕ, suc, Bool, true, false, not, ◌||◌, nat_le, cond, List, [], ◌∷◌, ◌++◌, filter, length}
 use Rattle.rk_settle.proofs.Words.{Option, Some, sym, ap, ◌∙◌, append-nil, arith, range_with_len, Segments, row_of, Session, Cluster}
 use Rattle.rk_settle.proofs.Words.{lane_at, World, LaneState, IsOf, state_of, same_count}

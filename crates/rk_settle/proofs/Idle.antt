@@ -1,4 +1,4 @@
--- The turns in a lane where none would leave anything: their moves leave the cluster as it is.
+-- The turns in a lane if none would leave anything: their moves leave the cluster as it is.
 use Rattle.rk_settle.proofs.Words.{◌≡◌, ℕ, suc, All, List, [], ◌∷◌, ◌++◌, map, slice_index_or, Option, None, Some, refl, sym, ap, subst}
 use Rattle.rk_settle.proofs.Words.{◌∙◌, All-head, All-tail, Node, Segments, Cluster, lane_at, World, new_world, LaneState, ClusterState}
 use Rattle.rk_settle.proofs.Words.{IsOf, counts_same, turns_of, MovesAll, Progress, Task}

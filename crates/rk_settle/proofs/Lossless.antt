@@ -1,4 +1,4 @@
--- A course in which no call of a replica fails: when its command stops it stands still, and that is never because replicas failed.
+-- A course in which no call of a replica fails: when its command stops, nothing is left to do, and that is never because replicas failed.
 use Rattle.rk_settle.proofs.Words.{arith, ◌≡◌, ℕ, nat_le, false, Bool, List, [], Option, None, Some, if◌then◌else◌, refl, get, Node}
 use Rattle.rk_settle.proofs.Words.{Segments, Message, lane_at, World, StepError, all_acted, is_lost_at_backup, deliver_in_makes, Kept}
 use Rattle.rk_settle.proofs.Words.{Course, act_makes, error_by, is_at_limit, moved, moved_by, with_tasks, SettleError, Task}

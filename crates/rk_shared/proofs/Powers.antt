@@ -1,5 +1,5 @@
 -- Eight numbers below eight whose powers of nine add up to those of 0 to 7 are just these: their sum's digits to the base nine, of which
--- none exceeds eight, tell how often each of them stands there.
+-- none exceeds eight, say how often each of them occurs.
 use Rattle.std.proofs.Common.{◌≡◌, ℕ, zero, suc, ◌+◌, ◌*◌, ◌^◌, ◌<◌, ◌≤◌, ◌==◌, Bool, cond, eq-eqb, ne_eqb, ⊎_elim, List, [], ◌∷◌, length, refl, sym, ◌∙◌, ap, arith}
 use Rattle.std.specs.List.{All, sum_by}
 use Rattle.std.proofs.Math.Nat.{pow-suc}

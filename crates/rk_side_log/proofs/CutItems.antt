@@ -1,4 +1,4 @@
--- The side segments that items fill: none is empty or too long, none could have taken what begins the next, and all items stand in them.
+-- The side segments that items fill: none is empty or too long, none could have taken what begins the next, and all items are in them.
 use Rattle.rk_side_log.proofs.Words.{◌≡◌, ℕ, zero, suc, ◌+◌, ◌<◌, ◌≤◌, Bool, true, false, leb, List, [], ◌∷◌, ◌++◌, length, map, get_or}
 use Rattle.rk_side_log.proofs.Words.{refl, sym, ap, ◌∙◌, arith, length-append, append_assoc, All, append-nil, All-head, All-tail}
 use Rattle.rk_side_log.proofs.Words.{spelled_of, Held, SEGMENT_BYTES, IsLawfulHeld, spelled, held_spelled, cut_items, sealed_sides}

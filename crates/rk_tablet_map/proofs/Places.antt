@@ -1,4 +1,4 @@
--- Where an element stands in a list: what is found there, and what an edit at that place makes of rows.
+-- The place of an element in a list: what is found there, and what an edit at that place makes of rows.
 use Rattle.std.proofs.Common.{◌≡◌, ℕ, suc, ◌+◌, ◌<◌, ◌≤◌, Bool, true, false, cond, not, ltb, List, [], ◌∷◌, length, get_or, set, Option, Some, None, is_some, position, find, ◌==◌, nat_le, refl, sym, ap, subst, ◌∙◌, arith}
 use Rattle.std.specs.Option.{unwrap_or}
 use Rattle.std.specs.List.{position_or_len, insert}

@@ -1,4 +1,4 @@
--- Where lanes have counted their calls, and were asked at most as many as the sessions made, each call was answered.
+-- If lanes have counted their calls, and were asked at most as many as the sessions made, each call was answered.
 use Rattle.std.proofs.Common.{◌≡◌, ℕ, ◌<◌, ◌≤◌, List, length, get_or, ap, subst, arith, Contains, map}
 use Rattle.rk_inv_base.proofs.Words.{length-map, Contains-get_or, Placed, Receipt, Cluster, World, new_world, IsSound}
 use Rattle.std.proofs.lemmas.List.{get_or_default}

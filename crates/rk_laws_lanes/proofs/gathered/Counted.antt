@@ -1,4 +1,4 @@
--- Where lanes have counted their calls, and were asked at most as many as sessions made that ended, each call was answered.
+-- If lanes have counted their calls, and were asked at most as many as sessions made that ended, each call was answered.
 use Rattle.std.proofs.Common.{◌≡◌, ℕ, ◌+◌, ◌≤◌, Bool, true, false, List, [], ◌∷◌, Option, Some, None, refl, sym, ap, ◌∙◌, subst}
 use Rattle.std.proofs.Common.{arith, Contains, IfSome, map, not, All, sum_by}
 use Rattle.rk_inv_base.proofs.Words.{All-cons, All-contains, All-head, All-nil, All-tail, sum_by-cons, Placed, Ledger, asked_by, is_accepted, World}

@@ -1,4 +1,4 @@
--- Where each record of a mutation is accepted, the merged history has the accepted records and nothing else.
+-- If each record of a mutation is accepted, the merged history has the accepted records and nothing else.
 use Rattle.std.proofs.Common.{arith, ◌≡◌, ℕ, suc, ◌+◌, Bool, true, ◌||◌, cond, List, [], ◌∷◌, ◌++◌, refl, ap, ◌∙◌, subst, filter, map, All}
 use Rattle.rk_inv_base.proofs.Words.{map-append, All-head, All-tail, Placed, Line, is_mutation, Answered}
 use Rattle.std.specs.Prelude.{IsPermutation}

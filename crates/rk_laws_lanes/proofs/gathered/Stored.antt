@@ -1,4 +1,4 @@
--- Where a gathered lane is quiet, its backups store what the one history has of it.
+-- If a gathered lane is quiet, its backups store what the one history has of it.
 use Rattle.std.proofs.Common.{◌≡◌, ℕ, ◌<◌, List, length, sym, ap, ◌∙◌, subst, All}
 use Rattle.rk_inv_base.proofs.Words.{All-weaker, Segments, Row, live_after, map_after, HasOwnKeys, IsRisingAbove, journal_of, lane_of_key}
 use Rattle.rk_inv_base.proofs.Words.{Placed, Base, base_map, Session, Cluster, lane_at, World}

@@ -1,4 +1,4 @@
--- Who has a session stays added in each lane, whatever occurs in a cluster, where nobody gets one who was not added in each lane.
+-- Who has a session stays added in each lane, whatever occurs in a cluster, if nobody gets a session who was not added in each lane.
 use Rattle.std.proofs.Common.{arith, ◌≡◌, ℕ, List, Option, Some, None, true, Err, Ok, Result}
 use Rattle.rk_inv_base.proofs.Words.{each_insert, get, Op, Visited, accept, ask, Session, new_session, Accepts, Asks, Calls}
 use Rattle.rk_inv_base.proofs.Words.{Cluster, Happens, Joins, Occurrence, called_by_client, cluster_after, cluster_stepped}

@@ -1,4 +1,4 @@
--- A client with an outstanding call sends one message on its turn, where that is not refused; and it is refused only as worn.
+-- A client with an outstanding call sends one message on its turn, if that is not refused; and it is refused only if the lane is worn.
 use Rattle.std.proofs.Common.{◌≡◌, ◌+◌, ◌<◌, ℕ, Bool, true, false, not, Option, Some, length, refl, ap, subst, ◌∙◌, arith, Contains, IfSome}
 use Rattle.std.proofs.Common.{bytes_eq, nat_lt, eq-eqb, lt-ltb, Err, Ok}
 use Rattle.rk_inv_base.proofs.Words.{and_from, All-contains, bytes_eq-Decides, Call, Placed, Answered, fits_with, is_call, is_last, Session}

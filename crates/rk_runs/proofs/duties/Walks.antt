@@ -1,4 +1,4 @@
--- What each event and each client keeps of a lane's coordinator and of who has crashed, where each change of these keeps it.
+-- What each event and each client keeps of a lane's coordinator and of who has crashed, if each change of these keeps it.
 use Rattle.std.proofs.Common.{arith, ℕ, List, [], ◌++◌, ◌∷◌}
 use Rattle.rk_inv_base.proofs.Words.{Body, Called, Coordinator, Event, Node, Session, World, accept, ask, coordinator_notice}
 use Rattle.rk_inv_base.proofs.Words.{crashed_masters, happened, new_row, rows_split, tablet_migrated, told_coordinator, world_visited, ⊤}

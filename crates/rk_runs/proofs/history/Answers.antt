@@ -1,4 +1,4 @@
--- Two lists of answers, each in the order of stamp and lane, are one where they have the same members.
+-- Two lists of answers, each in the order of stamp and lane, are one if they have the same members.
 use Rattle.std.proofs.Common.{◌≡◌, ℕ, Bool, true, false, ◌&&◌, ◌||◌, eqb, ltb, List, [], ◌∷◌, refl, sym, subst, ◌∙◌, ⊎_elim, arith, ◌==◌}
 use Rattle.std.proofs.Common.{nat_lt, All, Contains}
 use Rattle.rk_inv_base.proofs.Words.{behind_stands, first_stands, false≢true, nat_tests, All-contains, ⊤, Answered}

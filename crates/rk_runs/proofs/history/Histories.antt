@@ -1,4 +1,4 @@
--- Each cluster of a run has one history, which is ordered with the sessions of its clients, where events keep lanes sound.
+-- Each cluster of a run has one history, which is ordered with the sessions of its clients, if events keep lanes sound.
 use Rattle.std.proofs.Common.{◌≡◌, ℕ, ◌<◌, ◌≤◌, List, [], ◌∷◌, refl, sym, ap, subst, ⊎_elim, arith}
 use Rattle.rk_inv_base.proofs.Words.{cases_lt, get_or_past, All-nil, length-map-range_with_len, LANES, MOST_BACKUPS, new_session, Cluster}
 use Rattle.rk_inv_base.proofs.Words.{Occurrence, cluster_after, cluster_run, lane_at, new_cluster, session_at, IsRun, Ledger, asked_by}

@@ -1,4 +1,4 @@
--- A good lane stays good at an event, where events keep lanes sound, at a client's turn and at an answer.
+-- A good lane stays good at an event, if events keep lanes sound, at a client's turn and at an answer.
 use Rattle.std.proofs.Common.{ℕ, Result, Ok, IfSome, None, Option, Some, ap, refl, subst, ◌∙◌, ◌≡◌}
 use Rattle.rk_inv_base.proofs.Words.{All-nil, Base, Body, Call, Called, Event, HasRoom, IsAfterStart, IsSound, IsWellFormed, MayAct}
 use Rattle.rk_inv_base.proofs.Words.{MayHappen, Session, StepError, Visited, World, accept, ask, ask_by, ask_refusal, asking, happened}

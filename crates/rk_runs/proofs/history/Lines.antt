@@ -1,4 +1,4 @@
--- The lines of a merged history are the records of the journals that stand in it.
+-- The lines of a merged history are the records of the journals that are in it.
 use Rattle.std.proofs.Common.{◌≡◌, ℕ, Bool, true, List, refl, sym, subst, ◌==◌, filter, Contains, eq-eqb, eqb-true}
 use Rattle.rk_inv_base.proofs.Words.{Placed, journal_of, Line}
 use Rattle.rk_model.specs.Merged.{IsMergedFrom, is_kept}

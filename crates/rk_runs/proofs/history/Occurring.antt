@@ -1,4 +1,4 @@
--- A good cluster stays good at all that occurs in it, where events keep lanes sound.
+-- A good cluster stays good at all that occurs in it, if events keep lanes sound.
 use Rattle.std.proofs.Common.{arith, ◌≡◌, ℕ, ◌<◌, Bool, true, false, cond, List, Option, Some, None, length, refl, sym, ap, subst, ◌∙◌}
 use Rattle.std.proofs.Common.{⊎_elim, ◌≤◌, IfSome, Ok, unwrap_or, w32, option_map}
 use Rattle.rk_inv_base.proofs.Words.{cases_lt, get_or_past, IfSome_then, get, Call, Op, Message, Called, Visited, accept, accept_by}

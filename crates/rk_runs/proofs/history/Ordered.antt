@@ -1,4 +1,4 @@
--- The merged history of the lanes is ordered with the sessions of the clients, where the lanes are lawful and all agree.
+-- The merged history of the lanes is ordered with the sessions of the clients, if the lanes are lawful and all agree.
 use Rattle.std.proofs.Common.{◌≡◌, ℕ, ◌+◌, ◌<◌, Bool, true, false, ◌&&◌, ◌||◌, eqb, List, Option, Some, None, refl, sym, ap, subst, ◌∙◌}
 use Rattle.std.proofs.Common.{⊎_elim, arith, map, length, slice_get, IfSome, All, Contains, eq-eqb, eqb-true}
 use Rattle.rk_inv_base.proofs.Words.{and_parts, false≢true, All-contains, Call, Placed, Receipt, HasOwnKeys, IsRisingAbove}

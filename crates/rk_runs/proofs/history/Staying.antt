@@ -1,4 +1,4 @@
--- A record of a journal stays for ever: whatever occurs in a cluster, it stands at its place, but that it may be accepted.
+-- A record of a journal stays for ever: whatever occurs in a cluster, it is at its place, except that it may be accepted.
 use Rattle.std.proofs.Common.{◌≡◌, ℕ, List, [], ◌∷◌, ◌++◌, Option, Some, None, length, refl, sym, subst, ◌∙◌}
 use Rattle.std.proofs.Common.{arith, slice_get, get_or-set_other, length-set}
 use Rattle.rk_inv_base.proofs.Words.{get_or_past, get, Call, Placed, slice_get_front, Body, Message, Called, accept_by, accepting, ask_by}

@@ -1,5 +1,5 @@
--- The clients that were added in each lane of a cluster are those that have a session. It stays so whatever occurs, unless a client is added
--- or joins.
+-- The clients that were added in each lane of a cluster are those that have a session. It stays so whatever occurs, unless a client is
+-- added or joins.
 use Rattle.std.proofs.Common.{arith, ◌≡◌, ◌<◌, ℕ, true, List, [], ◌∷◌, length, All, Option, None, Some, refl, sym, ap, subst, ◌∙◌, Err, Ok}
 use Rattle.std.proofs.Common.{Result, is_some}
 use Rattle.rk_scripts.proofs.Words.{All-head, All-tail, IsInOrder, numbers, in_order_insert, Visited, Session, Cluster, Happens, Joins}

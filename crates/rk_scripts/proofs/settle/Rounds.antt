@@ -1,4 +1,4 @@
--- The rounds of `settle`: each one leaves all wires empty, and each that begins so leaves fewer messages to be sent, or the cluster at rest.
+-- The rounds of `settle`: each leaves all wires empty, and each that begins so leaves fewer messages to be sent, or the cluster at rest.
 use Rattle.std.proofs.Common.{◌≡◌, ◌<◌, ℕ, zero, suc, Bool, true, false, cond, List, [], ◌∷◌, filter, length, Option, None, Some, refl, ap}
 use Rattle.std.proofs.Common.{subst, ◌∙◌, arith, is_none, slice_index_or, eq-eqb, ◌≤◌, ◌+◌, ◌++◌, sym, append-nil, append_assoc, inl, inr}
 use Rattle.std.proofs.Common.{⊎_elim, ◌⊎◌, flat_map}
