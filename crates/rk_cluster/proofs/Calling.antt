@@ -18,7 +18,7 @@ use Rattle.rk_cluster.proofs.Carrying.{only_acts}
 use Rattle.rk_cluster.proofs.Leading.{leads_by}
 use Rattle.rk_cluster.proofs.Worlds.{world_at}
 
--- there is a copy just where there is something
+-- there is a copy just when there is something
 pub copied_some : {X : Type 0} (lent : Option (Bor X)) → is_some (option_copied lent) ≡ is_some lent
 copied_some None = refl
 copied_some (Some x) = refl
@@ -87,7 +87,7 @@ module _ {R : Type 0} (segments : R → Option Segments) (lanes : List (LaneStat
   -- ---- what occurs
 
   module _ (later : NumberMap Session) (key : List ℕ) (op : Op) (asked : IsAsked sessions later client table key op) where
-    -- where each session may act then, the call is lawful
+    -- if each session may act then, the call is lawful
     pub call_lawful : (masters : ℕ) → MayAllAct masters later → IsLawfulCall (next_call asked.session table key op)
     call_lawful masters acts =
         let session : Session = with_next_call asked.session table key op in

@@ -16,7 +16,7 @@ module _ {R : Type 0} (segments : R → Option Segments) where
       → ActsOne segments old next occurrence [] None → Acts segments next final later told broken → Acts segments old final (occurrence ∷ later) told broken
   first_acts old next final occurrence later told broken one acts cluster is = grind (arith, gone_on, acted)
 
-  -- nothing follows where something is worn
+  -- nothing follows if something is worn
   pub worn_stays : (before : Cluster) (next : ClusterState R) (told : List Said) (number : ℕ) (later : List Occurrence) (it : Acted)
       → IsActedAs segments before next told (Some number) it
       → IsActedAs segments before next told (Some number) (going_on it it.worn (λ cluster. all_acted cluster later))

@@ -44,7 +44,7 @@ module _ {R : Type 0} (segments : R → Option Segments) where
       → IsVisitOf visit old new later seen → VisitsLane visit old new session later (Ok seen)
   taken visit keeps old new session later seen it w is = grind (arith, world_with, all_visited)
 
-  -- why a visit is refused is the same in each world that a lane stands for
+  -- why a visit is refused is the same in each world that a lane represents
   known_there : (refusal : World → Option StepError) (old : LaneState R) (error : StepError) → IsRefusedFor refusal old error → (running : Running) → old.running ≡ Some running
       → refusal (world_with old running []) ≡ Some error
   known_there refusal old error it running runs =
@@ -113,13 +113,13 @@ module _ {R : Type 0} (segments : R → Option Segments) where
         subst (λ (base : Base). IfSome (session_at cluster client).outstanding (IsAfterStart base)) (sym (ap (λ (w : World). w.base) world_is.is))
         (after_nothing (session_at cluster client).outstanding)
 
-    -- where the client is not refused that came, and else nothing did
+    -- that came if the client is not refused, and else nothing did
     visit_leads : (occurrence : Occurrence) → ClusterMay cluster occurrence → KeepsCalm cluster occurrence → ReplicasTell cluster occurrence → (visited : Result Visited StepError)
         → cluster_after cluster occurrence ≡ cluster_visited cluster place client visited → RunsTo cluster (came_in occurrence visited) (cluster_visited cluster place client visited)
     visit_leads occurrence may calm tell (Ok visited) same = subst (RunsTo cluster (occurrence ∷ [])) same (leads_by cluster occurrence may calm tell)
     visit_leads occurrence may calm tell (Err error) same = leads_nowhere cluster
 
-    -- what occurs then is told by the session as it stands in the cluster
+    -- what occurs then is given by the session as it is in the cluster
     acted_by_known : (occurrence : Occurrence) (visit : World → Session → Result Visited StepError) (said : Session → List Said) (told : List Said) (answer : Result Seen StepError)
         → VisitsLane (λ w. visit w session) old new session later answer
         → (HasVisited old new session later answer (visit (lane_at cluster place) session) → said session ≡ told) → (known : Session) → known ≡ session

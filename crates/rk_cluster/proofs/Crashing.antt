@@ -54,7 +54,7 @@ module _ {R : Type 0} (segments : R → Option Segments) where
   crashing_all faults old now masters master lane past before sessions =
       come_all segments occurrence_of (crashes master) (state_of old sessions) (state_of now sessions) lane past (before.came sessions)
 
-  -- where another master lives a crash may come
+  -- if another master lives a crash may come
   pub crash_may : (faults : R → ℕ) (old now : List (LaneState R)) (masters master lane : ℕ) → IsMaster masters master → All (HoldsIn (λ w. lives_another w master)) old
       → IsCrashing faults old now masters master lane → MayComeAt now lane (events.Crash master)
   crash_may faults old now masters master lane there calm before it is = record {

@@ -87,7 +87,7 @@ module _ {R : Type 0} (segments : R → Option Segments) (faults : R → ℕ) wh
     none_called : (new : ClusterState R) → LanesGoOn faults [] lanes new.lanes → LanesGoOn faults (Kept ∷ []) lanes new.lanes
     none_called new on = go_on_kept (counts_in faults lanes) (counts_in faults new.lanes) on
 
-    -- nothing occurs where the message is not there
+    -- nothing occurs if the message is not there
     pub delivers_nothing : receiver_of number wire ≡ None → Delivers segments faults (state_of lanes sessions) (state_of lanes sessions) place number [] None
     delivers_nothing none =
         by_receiver (state_of lanes sessions) None Kept [] None none (none_called (state_of lanes sessions) (lanes_same faults lanes)) (none_acts segments (state_of lanes sessions))

@@ -27,13 +27,13 @@ lost_then w number called refused stepped is came lost = grind (arith, lost_to)
 
 -- ---- whom a message is for
 
--- where a lane's wire has a message for a backup, its delivery there is one to a backup
+-- if a lane's wire has a message for a backup, its delivery there is a delivery to a backup
 pub for_backup : {R : Type 0} (lanes : List (LaneState R)) (place number : ℕ) (lane : LaneState R) (wire : Traffic) (to : Node) → slice_get lanes place ≡ Some lane
     → IfSome lane.running (λ running. wire ≡ running.wire) → receiver_of number wire ≡ Some to → is_backup (Some to) ≡ true
     → IsForBackup lanes place (events.Deliver number)
 for_backup {R = R} lanes place number lane wire to there known to_is is other at = grind (arith, is_backup, receiver_of)
 
--- ---- what a replica that tells its segments answers where it fails
+-- ---- what a replica that reports its segments answers if it fails
 
 called_left : (stored : Segments) (sender : Node) (body : Body) (kept left : ℕ) → called_by stored sender body (Some kept) ≡ Failed left → called_by stored sender body (Some left) ≡ Failed left
 called_left stored sender body kept left is = grind arith
@@ -98,7 +98,7 @@ module _ {R : Type 0} (faults : R → ℕ) (lanes : List (LaneState R)) (place :
   lanes_visited visit session (Ok seen) ok kept = same_backups ok.backups
   lanes_visited visit session (Err error) ok kept = spent_on kept
 
-  -- ---- a message that was delivered to a backup was lost only where its replica failed
+  -- ---- a message that was delivered to a backup was lost only if its replica failed
 
   once : (receiver : Option Node) (called : Called) → IsFailed called → HasCause faults receiver called old.backups new.backups → SomeLaneFailed faults lanes (slice_set lanes place new)
   once receiver called failed cause =

@@ -51,7 +51,7 @@ module _ {R : Type 0} (segments : R → Option Segments) (faults : R → ℕ) wh
   HasStepped old new broken w event called (Ok stepped) = IsWorld segments new stepped.world × (broken ≡ None) × MightCome w event called
   HasStepped old new broken w event called (Err error) = (new ≡ old) × (broken ≡ worn_by error)
 
-  -- so it is in each world that a lane stands for
+  -- so it is in each world that a lane represents
   abbrev pub StepsLane : ℕ → LaneState R → LaneState R → Event → Fate → Option ℕ → Type 0
   StepsLane place old new event fate broken =
       (w : World) → IsWorld segments old w → HasStepped old new broken w event (answer_in w place event fate) (step w event (answer_in w place event fate))
@@ -61,7 +61,7 @@ module _ {R : Type 0} (segments : R → Option Segments) (faults : R → ℕ) wh
   ShowsLost place old event fate lost = (w : World) → IsWorld segments old w → lost_in (step w event (answer_in w place event fate)) ≡ lost
 
   module _ (lanes : List (LaneState R)) (place : ℕ) (old new : LaneState R) (there : slice_get lanes place ≡ Some old) (event : Event) where
-    -- where a lane took an event
+    -- if a lane took an event
     module _ (seen : Seen) (it : IsStepOf segments faults event old new seen) where
       abbrev its_fate : HasFate faults lanes place old new there (receiver_by event it.before.wire) it.called
       its_fate = has_fate faults lanes place old new there (receiver_by event it.before.wire) it.called it.cause
@@ -82,7 +82,7 @@ module _ {R : Type 0} (segments : R → Option Segments) (faults : R → ℕ) wh
         answer_is : answer_in (world_with old it.before is.stored) place event its_fate.fate ≡ it.called
         answer_is = its_fate.answers (world_with old it.before is.stored) event (from.given all_tell)
 
-        -- the world after it, in which all replicas still tell
+        -- the world after it, in which all replicas still report
         after_is : IsWorld segments new (world_with new it.after from.backups)
         after_is = record {
           running = it.after;
@@ -118,7 +118,7 @@ module _ {R : Type 0} (segments : R → Option Segments) (faults : R → ℕ) wh
       pub taken_shows : ShowsLost place old event its_fate.fate seen.lost
       taken_shows w is = taken_lost w is
 
-    -- where it refused one
+    -- if it refused one
     module _ (error : StepError) (other : error ≢ causes.NoMemory) (it : IsRefused faults event old new error) where
       refused_in : (w : World) → IsWorld segments old w → refusal w event ≡ Some error
       refused_in w is =
@@ -190,7 +190,7 @@ module _ {R : Type 0} (segments : R → Option Segments) (faults : R → ℕ) wh
           shows (lane_at cluster place) (world_at segments lanes cluster.lanes place old (new_world place 0 0) is.lanes there);
     }
 
-    -- no replica is called where nothing changes
+    -- no replica is called if nothing changes
     none_lost : LanesGoOn faults [] lanes (slice_set lanes place new) → LanesGoOn faults (Kept ∷ []) lanes (slice_set lanes place new)
     none_lost on = go_on_kept (counts_in faults lanes) (counts_in faults (slice_set lanes place new)) on
 

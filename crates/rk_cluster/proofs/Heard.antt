@@ -24,7 +24,7 @@ says answer = grind arith
 pub heard_well : (answer : Result Seen StepError) → failure_of answer ≡ None → IsHeard answer None
 heard_well answer well = subst (Says answer) well (says answer)
 
--- what an error tells, where an answer was heard
+-- what an error shows, if an answer was heard
 pub heard_ends : (Holds : ℕ → Type 0) (answer : Result Seen StepError) (e : ClusterError) → failure_of answer ≡ Some e
     → ((number : ℕ) → IsHeard answer (Some number) → Holds number) → WhereWorn Holds e
 heard_ends Holds answer e failed gives = grind (arith, says)

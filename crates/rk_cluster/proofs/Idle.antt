@@ -8,7 +8,7 @@ use Rattle.rk_world.specs.declared.event.Event.TheVariants as events
 use Rattle.rk_lane.specs.Resting.{IsIdle, IsResting}
 use Rattle.rk_cluster.proofs.Worlds.{same_count}
 
--- where no call is outstanding in a lane no client takes its turn there
+-- if no call is outstanding in a lane no client takes its turn there
 pub none_asks : (lane : ℕ) (sessions : NumberMap Session) → list_all (λ entry. not (is_call_in lane entry.1.outstanding)) sessions ≡ true → clients_in lane sessions ≡ []
 none_asks lane [] none = refl
 none_asks lane (entry ∷ others) none = by (is_call_in lane entry.1.outstanding) (none_asks lane others) none
@@ -23,7 +23,7 @@ none_asks lane (entry ∷ others) none = by (is_call_in lane entry.1.outstanding
     by true rest none = absurd (cc none)
     by false rest none = rest none
 
--- the world that a lane stands for rests where the lane does
+-- the world that a lane represents rests if the lane does
 pub rests_there : {R : Type 0} (segments : R → Option Segments) (lane : LaneState R) (w : World) → IsWorld segments lane w
     → IfSome lane.running (λ running. (stored : NumberMap Segments) → IsResting (world_with lane running stored)) → IsResting w
 rests_there segments lane w world rests =

@@ -83,7 +83,7 @@ module _ {R : Type 0} (segments : R → Option Segments) where
       (subst (λ (known : NumberMap Session). ActsOne segments (state_of new sessions) (state_of new known) (Joins client) [] None) (sym put) (joins new sessions client number absent)))
       cluster is)
 
-  -- an event in all lanes, with more behind it, ended where one is worn
+  -- an event in all lanes, with more behind it, ended since a lane is worn
   pub all_worn : (old new : List (LaneState R)) (sessions : NumberMap Session) (event : Event) (more : List Occurrence) (number : ℕ) → length old ≡ LANES
       → StepsEndWorn segments old new (deeds_in event) number
       → ActsBy segments (state_of old sessions) (state_of new sessions) (λ cluster. in_lanes (all_lanes cluster) event ++ more) [] (Some number)
@@ -109,7 +109,7 @@ module _ {R : Type 0} (segments : R → Option Segments) where
       (came_short segments (state_of old sessions) (state_of new sessions) (state_of new later) (occurrences (deeds_in (events.AddClient client))) (Joins client ∷ []) (carries sessions)
       (record { lanes = inl refl; sessions = inl same }))
 
-  -- how a call ends in an error, where it has no code
+  -- how a call ends in an error, if it has no code
   pub ends_in : (Holds : ℕ → Type 0) (old new : ClusterState R) (code_of : Cluster → Option Code) (makes : Cluster → List Occurrence) (e : ClusterError)
       → HasCode segments old code_of None → ((number : ℕ) → Holds number → ActsBy segments old new makes [] (Some number)) → WhereWorn Holds e
       → CutShortBy segments old new makes → EndsIn segments old new code_of makes e

@@ -15,15 +15,15 @@ run_on cluster [] after first second = second
 run_on cluster (occurrence ∷ before) after first second =
     (first.0, first.1, first.2, run_on (cluster_after cluster occurrence) before after first.3 second)
 
--- where nothing occurs
+-- if nothing occurs
 pub leads_nowhere : (cluster : Cluster) → RunsTo cluster [] cluster
 leads_nowhere cluster = record { run = tt; is = refl }
 
--- where one thing occurs
+-- if one thing occurs
 pub leads_by : (cluster : Cluster) (occurrence : Occurrence) → ClusterMay cluster occurrence → KeepsCalm cluster occurrence → ReplicasTell cluster occurrence
     → RunsTo cluster (occurrence ∷ []) (cluster_after cluster occurrence)
 leads_by cluster occurrence may calm tell = record { run = (may, calm, tell, tt); is = refl }
 
--- where one run follows another
+-- if one run follows another
 pub leads_on : (before middle after : Cluster) (first second : List Occurrence) → RunsTo before first middle → RunsTo middle second after → RunsTo before (first ++ second) after
 leads_on before middle after first second one two = grind (arith, run_on, runs_join)

@@ -28,7 +28,7 @@ deeds_may masters count event lanes is plain may there =
     (All-weaker (λ lane. lane < LANES) (λ lane. IsDeed LANES masters (record { lane = lane; event = event })) (λ lane within. record { there = within; plain = plain; may = may }) lanes there))
 
 module _ {R : Type 0} (segments : R → Option Segments) where
-  -- what is told of lanes under another name
+  -- what is seen of lanes, under another name
   pub told_of : {T : Type 0} (given lanes : List (LaneState R)) (look : Cluster → T) (seen : T) → given ≡ lanes → LanesTell segments given look seen
       → LanesTell segments lanes look seen
   told_of given lanes look seen same tells = subst (λ (those : List (LaneState R)). LanesTell segments those look seen) same tells
@@ -40,7 +40,7 @@ module _ {R : Type 0} (segments : R → Option Segments) where
   numbered_made lanes sessions event tablet count tells cluster is =
       ap (λ (number : ℕ). in_lanes (all_lanes cluster) (event number)) (tells sessions cluster is) ∙ sym (made_in_all segments lanes sessions (event tablet) count cluster is)
 
-  -- an event in the lanes that are told
+  -- an event in the lanes that were found
   pub found_made : (lanes : List (LaneState R)) (sessions : NumberMap Session) (event : Event) (look : Cluster → List ℕ) (found : List ℕ)
       → LanesTell segments lanes look found → (cluster : Cluster) → IsOf segments (state_of lanes sessions) cluster
       → in_lanes (look cluster) event ≡ occurrences (deeds_of event found)
@@ -65,7 +65,7 @@ module _ {R : Type 0} (segments : R → Option Segments) where
         subst (λ (it : List Occurrence). IsActedAs segments cluster (state_of new sessions) [] (Some number) (all_acted cluster it))
         (append-nil (occurrences deeds) ∙ sym (made cluster is)) (worn sessions [] cluster is)
 
-    -- some were done, up to one that found its lane worn, or for which memory was wanting
+    -- some were done, up to a deed that found its lane worn, or for which memory was wanting
     pub stopped : (e : ClusterError) → WhereWorn (StepsEndWorn segments lanes new deeds) e → AreStepsCutShort segments lanes new deeds → EndsIn segments (state_of lanes sessions) (state_of new sessions) code_of makes e
     stopped e worn short =
         ends_in segments (StepsEndWorn segments lanes new deeds) (state_of lanes sessions) (state_of new sessions) code_of makes e code stops worn

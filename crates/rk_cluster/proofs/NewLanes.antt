@@ -14,7 +14,7 @@ use Rattle.rk_cluster.proofs.Worlds.{all_at, something_within}
 
 -- ---- hands
 
--- a list is as long as the places where something stands
+-- a list is as long as the places that have an element
 places_count : {X : Type 0} (xs : List X) (count : ℕ) → ((place : ℕ) → place < count → slice_get xs place ≡ None → ⊥) → slice_get xs count ≡ None → length xs ≡ count
 places_count [] zero some none = refl
 places_count [] (suc count) some none = absurd (some 0 (omega arith) refl)
@@ -33,7 +33,7 @@ eighth_length things its lane count within many is =
     (λ place less none. nothing_within things (8 * place + lane) (omega (arith, within, many, less)) (sym (is place) ∙ none))
     (is count ∙ slice_get_past things (8 * count + lane) (omega (arith, many)))
 
--- what holds where something stands holds of all
+-- what holds of the element at each place holds of all
 all_places : {X : Type 0} (Holds : X → Type 0) (xs : List X) → ((place : ℕ) (x : X) → slice_get xs place ≡ Some x → Holds x) → All Holds xs
 all_places Holds [] holds = All-nil Holds
 all_places Holds (x ∷ xs) holds = All-cons Holds x xs (holds 0 x refl) (all_places Holds xs (λ place. holds (suc place)))
@@ -98,7 +98,7 @@ module _ {R : Type 0} (segments : R → Option Segments) (masters : ℕ) where
   made_lanes from (one ∷ hands) [] are = absurd are
   made_lanes from (one ∷ hands) (first ∷ lanes) are = (are.0.new.number_is, are.0.new.masters_are, made_lanes (from + 1) hands lanes are.1)
 
-  -- where the replicas tell that nothing was written, a lane stands for the new world
+  -- if the replicas report that nothing was written, a lane represents the new world
   made_world : (number backups : ℕ) (replicas : List R) (lane : LaneState R) → length replicas ≡ backups → AreEmpty segments replicas → IsMadeOf segments masters number replicas lane
       → IsWorld segments lane (new_world number masters backups)
   made_world number backups replicas lane many empty made =
@@ -123,7 +123,7 @@ module _ {R : Type 0} (segments : R → Option Segments) (masters : ℕ) where
     made_worlds backups (from + 1) hands lanes (All-tail (λ (hand : Vec R). length hand.items ≡ backups) one hands many) (All-tail (λ (hand : Vec R). AreEmpty segments hand.items) one hands empty) are.1,
   )
 
-  -- a cluster of lanes that were made of what was dealt is the new one, where the replicas tell that nothing was written
+  -- a cluster of lanes that were made of what was dealt is the new one, if the replicas report that nothing was written
   pub made_cluster : (backups : ℕ) (replicas : List R) (hands : List (Vec R)) (lanes : List (LaneState R)) → length replicas ≡ LANES * backups → AreDealt replicas hands
       → AreMadeOf segments masters 0 hands lanes → AreEmpty segments replicas → IsOf segments (state_of lanes []) (new_cluster masters backups)
   made_cluster backups replicas hands lanes many dealt are empty =

@@ -7,7 +7,7 @@ use Rattle.rk_cluster.specs.Looks.{master_count}
 use Rattle.rk_cluster.specs.declared.code.Code.TheVariants.{Alive}
 use Rattle.rk_cluster.proofs.Worlds.{world_at}
 
--- a number from 1 to a count is one that is there
+-- a number from 1 to a count is within the count
 pub is_within : (number count : ℕ) → 1 ≤ number → number ≤ count → (nat_le 1 number && nat_le number count) ≡ true
 is_within number count first last = grind (arith, nat_tests, first, last)
 

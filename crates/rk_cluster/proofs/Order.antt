@@ -27,7 +27,7 @@ module _ {R : Type 0} (faults : R → ℕ) where
         ∙ sym (get_map faults replicas (LANES * place + lane))
 
   module _ (fates : List Fate) (old new : List (LaneState R)) (eight : length old ≡ LANES) (eight_new : length new ≡ LANES) (on : LanesGoOn faults fates old new) where
-    -- the counts of replicas go on in their order where those of the lanes do
+    -- the counts of replicas go on in their order if those of the lanes do
     pub replicas_go_on : (before now : List R)
         → ((number : ℕ) (lane : LaneState R) → slice_get old number ≡ Some lane → IsEighth before number (replicas_of lane.backups))
         → ((number : ℕ) (lane : LaneState R) → slice_get new number ≡ Some lane → IsEighth now number (replicas_of lane.backups))

@@ -28,7 +28,7 @@ module _ {R X : Type 0} (segments : R → Option Segments) (occurs : X → Occur
       (sym (ap (map occurs) (take_more all index d within) ∙ map-append occurs (take index all) (x ∷ [])))
       (carries_then segments start now next (map occurs (take index all)) (occurs x) came one)
 
-  -- or it ends where something is worn
+  -- or it ends since something is worn
   pub come_worn : (start now next : ClusterState R) (index number : ℕ) (d : X) → index < length all
       → ActsOne segments now next (occurs (slice_index_or all index d)) [] (Some number) → HaveCome start now index
       → EndsWorn segments start next (map occurs all) number

@@ -53,7 +53,7 @@ numbered from (suc count) (first ∷ rest) is (suc place) entry there =
       ap (λ (test : Bool). cond test (Some first.1) (get rest entry.0)) (later_apart entry.0 first.0 (omega (arith, it.0, number))) ∙ it.1,
     )
 
--- nothing is staged at the masters that live where each master has crashed or has nothing staged
+-- nothing is staged at the masters that live if each master has crashed or has nothing staged
 pub applied_all : (w : World) (count : ℕ) → numbers w.masters ≡ range_with_len 1 count → has_applied_all w ≡ list_all (rests w) (range_with_len 1 count)
 applied_all w count is =
     let found : AreFound w 1 w.masters =
@@ -72,7 +72,7 @@ module _ {R : Type 0} (lane : LaneState R) (masters : ℕ) (many : lane.masters 
       → IfSome running (λ it. told ≡ list_all (rests (world_with lane it [])) (range_with_len 1 masters)) → IfSome running (λ it. told ≡ has_applied_all (world_with lane it []))
   applied_told told running formed counted known = grind (arith, world_with, applied_all)
 
-  -- a master rests, as its own test tells
+  -- a master rests, as its own test says
   pub rests_told : (told : Bool) (master : ℕ) (running : Option Running) → IfSome running (λ it. told ≡ (has_crashed (world_with lane it []) master
       || (length (staged (master_at (world_with lane it []) master)) == 0))) → (number : ℕ) → number ≡ master
       → IfSome running (λ it. told ≡ rests (world_with lane it []) number)

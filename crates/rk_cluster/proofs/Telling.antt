@@ -26,7 +26,7 @@ owner_eq master (Some owner) = refl
 
 module _ {R : Type 0} (segments : R → Option Segments) where
   module _ (lanes : List (LaneState R)) where
-    -- what a lane tells is seen in the lane at its place
+    -- what a lane shows is seen in the lane at its place
     pub lane_tells : {T : Type 0} (place : ℕ) (lane : LaneState R) (look : World → T) (seen : T) → slice_get lanes place ≡ Some lane
         → LaneTells segments lane look seen → LanesTell segments lanes (λ cluster. look (lane_at cluster place)) seen
     lane_tells place lane look seen there tells sessions cluster is =

@@ -7,7 +7,7 @@ use Rattle.rk_cluster.proofs.Words.{world_with, AreWorlds, IsWorld, HoldsIn, Tel
 -- ---- lanes
 
 module _ {R : Type 0} (test : World → Bool) where
-  -- what is told to hold does
+  -- what is reported to hold does
   pub holds_there : (lane : LaneState R) (told : Bool) → TellsOf test lane told → told ≡ true → HoldsIn test lane
   holds_there lane told known is = grind (arith, world_with, lane.running)
 
@@ -34,7 +34,7 @@ module _ {R : Type 0} (segments : R → Option Segments) (test : World → Bool)
   fails_behind true rest is = is
   fails_behind false rest is = refl
 
-  -- a lane where it does not hold settles it
+  -- a lane in which it does not hold settles it
   pub one_fails : (lanes : List (LaneState R)) (worlds : List World) (place : ℕ) (lane : LaneState R) → slice_get lanes place ≡ Some lane → TellsOf test lane false
       → AreWorlds segments lanes worlds → list_all test worlds ≡ false
   one_fails [] worlds place lane there told are = absurd (cc there)
@@ -64,7 +64,7 @@ module _ {X : Type 0} (test : Running → X → Bool) (xs : List X) (index : ℕ
   holds_of_all None past before = tt
   holds_of_all (Some running) past before = sym (ap (list_all (test running)) (sym (take_all index xs past)) ∙ before)
 
--- what is told of one list is told of an equal one
+-- what was found of one list holds of an equal one
 pub told_of : {X : Type 0} (test : Running → X → Bool) (xs : List X) (ys : Running → List X) (told : Bool) (running : Option Running)
     → IfSome running (λ it. told ≡ list_all (test it) xs) → IfSome running (λ it. xs ≡ ys it) → IfSome running (λ it. told ≡ list_all (test it) (ys it))
 told_of test xs ys told None known same = tt

@@ -7,11 +7,11 @@ use Rattle.std.proofs.lemmas.Option.{get_or_from_slice_get, slice_get-get_or}
 
 -- ---- lists
 
--- what is put where it stands already changes nothing
+-- an element that is put at the place it is at already changes nothing
 pub set_there : {X : Type 0} (xs : List X) (place : ℕ) (x : X) → slice_get xs place ≡ Some x → slice_set xs place x ≡ xs
 set_there xs place x there = ap (slice_set xs place) (sym (get_or_from_slice_get xs place x x there)) ∙ set-get_or xs place x
 
--- and leaves what stands at other places
+-- and what is put at a place leaves what is at other places
 pub set_beside : {X : Type 0} (xs : List X) (place : ℕ) (x : X) (other : ℕ) → other ≢ place → slice_get (slice_set xs place x) other ≡ slice_get xs other
 set_beside [] place x other apart = refl
 set_beside (y ∷ ys) zero x zero apart = absurd (apart refl)
@@ -19,16 +19,16 @@ set_beside (y ∷ ys) zero x (suc other) apart = refl
 set_beside (y ∷ ys) (suc place) x zero apart = refl
 set_beside (y ∷ ys) (suc place) x (suc other) apart = set_beside ys place x other (λ same. apart (ap suc same))
 
--- what is put at a place stands there
+-- what is put at a place is there
 pub set_here : {X : Type 0} (xs : List X) (place : ℕ) (x : X) → place < length xs → slice_get (slice_set xs place x) place ≡ Some x
 set_here xs place x within =
     slice_get-get_or (slice_set xs place x) place x (omega (arith, within, length-set xs place x)) ∙ ap Some (get_or-set_same xs place x x within)
 
--- what holds of each element holds of one that stands there
+-- what holds of each element holds of the one at a place
 pub all_at : {X : Type 0} (Holds : X → Type 0) (xs : List X) (place : ℕ) (x : X) → slice_get xs place ≡ Some x → All Holds xs → Holds x
 all_at Holds xs place x there all = subst Holds (get_or_from_slice_get xs place x x there) (all place x (slice_get_within xs place x there))
 
--- within a list something stands
+-- within a list there is an element
 pub something_within : {X : Type 0} (xs : List X) (place : ℕ) → place < length xs → (x : X) × (slice_get xs place ≡ Some x)
 something_within [] place within = absurd (omega (arith, within))
 something_within (x ∷ xs) place within = (get_or (x ∷ xs) place x, slice_get-get_or (x ∷ xs) place x within)

@@ -75,7 +75,7 @@ acts_after_answer old new number session later seen kept may visited =
     (formed_accept (world_of old []) number session (record { world = world_of new []; session = later; seen = seen }) (visited.visited []) (acts_there old session kept may)
     kept.formed.formed).session
 
--- so it is also where they found no memory, or were refused
+-- so it is also if they found no memory, or were refused
 pub acts_by_turn : (old new : Parts) (session later : Session) (result : Result Seen StepError) → IsKept old → MayAct (length old.masters.items) session
     → IfOk result (λ seen. IsVisited (λ w. ask w session) old new later seen) → OnErr result (new ≡ old) → OnErr result (MayHaveTurned session later)
     → MayAct (length new.masters.items) later

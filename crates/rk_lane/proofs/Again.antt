@@ -6,7 +6,7 @@ use Rattle.std.specs.Prelude.{not}
 use Rattle.rk_world.specs.declared.error.StepError.TheVariants as errors
 use Rattle.rk_world.specs.declared.event.Event.TheVariants as events
 
--- the request that is sent, where there is one
+-- the client has a request, and just this one is sent
 pub record IsRequestOf (parts : Parts) (client : ℕ) (sends : List Message) : Type 0 where
   pub request : Message
   pub there : get parts.ledger.requests client ≡ Some request

@@ -74,13 +74,13 @@ idle_backed segments faults it from body log sends asks none = record {
 
 -- ---- it took an Append
 
--- what it tells then is what the call came to
+-- what it reports then is what the call came to
 append_given : (master : ℕ) (append : Append) (after : ℕ) (old new : Option Segments) → WhereTold (λ before now. now ≡ append_taken before master append (Appended after)) old new
     → IfSome new (λ told. after ≡ lengths_of told master append.segment)
     → IfSome old (λ stored. IsAnswerOf (called_by stored (nodes.Master master) (bodies.Append append)) (Appended after))
 append_given master append after old new told is = grind arith
 
--- where it failed, the replica was asked, and stored so much
+-- if it failed, the replica was asked, and stored so much
 fault_given : (master : ℕ) (append : Append) (before after : ℕ) (old : Option Segments) → calls_replica before append ≡ true
     → IfSome old (λ told. before ≡ lengths_of told master append.segment)
     → IfSome old (λ stored. IsAnswerOf (called_by stored (nodes.Master master) (bodies.Append append)) (Failed (after - before)))
@@ -96,19 +96,19 @@ fault_given master append before after (Some stored) asked is = record {
   );
 }
 
--- a message that tells what is stored tells no more than a segment
+-- a message that reports what is stored reports no more than a segment
 within_segment : (number master : ℕ) (append : Append) (after : ℕ) (message : Message) → append_step number master append (Appended after) ≡ sending (message ∷ []) → IsWithinSegment message.body
     → after ≤ SEGMENT_BYTES
 within_segment number master append after message is within = grind arith
 
 module _ {R : Type 0} (segments : R → Option Segments) (faults : R → ℕ) (old new : BackupLane R) (master : ℕ) (append : Append) (before after : ℕ) (log : ℕ → ℕ → List ℕ)
     (number : number_of new ≡ number_of old) where
-  -- what its replica tells then, by what it answered
+  -- what its replica reports then, by what it answered
   abbrev pub IsStoredBy : Result Message Lost → Type 0
   IsStoredBy result =
       WhereTold (λ told now. now ≡ append_taken told master append (append_called result before after)) (segments (replica_of old)) (segments (replica_of new))
 
-  -- it tells how much is stored
+  -- it reports how much is stored
   pub append_backed : (message : Message) → IsBacked (append_step (number_of old) master append (append_called {T = Message} (Ok message) before after)) (Ok message)
       → IsStoredBy (Ok message) → IfSome (segments (replica_of new)) (λ told. after ≡ lengths_of told master append.segment)
       → HasLossCause {T = Message} (faults (replica_of old)) (faults (replica_of new)) (Ok message) → IsWithinSegment message.body
@@ -143,7 +143,7 @@ module _ {R : Type 0} (segments : R → Option Segments) (faults : R → ℕ) (o
 
 -- ---- it took a Read
 
--- told segments stay at a read
+-- reported segments stay at a read
 read_told : (master : ℕ) (wanted : ReadSegment) (called : Called) (old new : Option Segments) → WhereTold IsSame old new
     → WhereTold (λ before now. now ≡ stored_after before (nodes.Master master) (bodies.Read wanted) called) old new
 read_told master wanted called old new told = grind arith
@@ -174,7 +174,7 @@ pub handed_on : {T E : Type 0} (result : Result T E) (cause : E) (P : E → Type
 handed_on (Ok value) cause P is holds = absurd is
 handed_on (Err error) cause P is holds = subst P (sym is) holds
 
--- where memory was wanting, no replica failed
+-- if memory was wanting, no replica failed
 pub spared_loss : {R T : Type 0} (faults : R → ℕ) (old new : BackupLane R) → number_of new ≡ number_of old
     → HasLossCause {T = T} (faults (replica_of old)) (faults (replica_of new)) (Err losses.NoMemory) → IsSpared faults old new
 spared_loss {R} {T} faults old new number cause = record { number = number; fine = cause.kept (λ never. cc never) }

@@ -40,7 +40,7 @@ found_some : {X : Type 0} (found : Option X) → is_some found ≡ true → IsFo
 found_some None there = absurd (cc there)
 found_some (Some it) there = record { it = it; is = refl }
 
--- what the call came to, where the replica tells its segments
+-- what the call came to, if the replica reports its segments
 given_by : {R : Type 0} (segments : R → Option Segments) (replica : R) (found : Option Segments) (P : Segments → Type 0) (its : Segments)
     → segments replica ≡ Some its → found ≡ Some its → IfSome (segments replica) P → P (unwrap_or found no_segments)
 given_by segments replica found P its tells is holds =
@@ -126,7 +126,7 @@ module _ {R : Type 0} (segments : R → Option Segments) (faults : R → ℕ) (o
   cause : HasCause faults (receiver_of number old.wire) by.called before (with_backup before backup now)
   cause = grind (arith, by_failing, receiver_of, with_backup, one_failed, is_there, none_failed)
 
-  -- what the call came to, where all replicas tell their segments
+  -- what the call came to, if all replicas report their segments
   given : (stored : NumberMap Segments) → AreTold segments before stored → AllTell (world_of old stored)
       → IsAnswerOf (told_by_replica (world_of old stored) (events.Deliver number)) by.called
   given stored are all =

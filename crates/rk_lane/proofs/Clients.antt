@@ -20,13 +20,13 @@ use Rattle.rk_lane.proofs.Requests.{asked_for_masters, requested_for_masters, ta
 use Rattle.rk_lane.proofs.Sendable.{fit_to_send}
 use Rattle.rk_lane.proofs.Topped.{keeps_once_topped, topped}
 
--- all is kept where ledger, wire and greatest number alone are others
+-- all is kept if nothing but ledger, wire and greatest number changes
 pub kept_with : (old : Parts) (ledger : Ledger) (wire : Traffic) (top : ℕ) → IsKept old
     → IsFormedWithRoom (world_of (record old { ledger = ledger; wire = wire; top = top }) []) → AreForMasters ledger.requests
     → IsKept (record old { ledger = ledger; wire = wire; top = top })
 kept_with old ledger wire top kept formed requests = grind arith
 
--- each call comes after a start that tells nothing
+-- each call comes after a start that records nothing
 pub after_nothing : (call : Option Call) → IfSome call (IsAfterStart no_base)
 after_nothing None = tt
 after_nothing (Some call) = All-nil _
@@ -38,7 +38,7 @@ visited_as visit old made new later session shown seen parts same is visited = g
 
 -- ---- the ledger
 
--- a call is noted just where the definitions note it
+-- a call is noted just when the definitions note it
 noted_is : (ledger : Ledger) (session : Session) (call : Call) → noted ledger session.client (last_to_note ledger session (Some call)) ≡ ledger_asked ledger session call
 noted_is ledger session call = grind (arith, is_asked, noted, with_asked)
 
@@ -58,7 +58,7 @@ clients_saved ledger client (Some message) = refl
 abbrev AllSeen : ℕ → Ledger → Type 0
 AllSeen limit ledger = All (λ entry. seen_of entry.1 ≤ limit) ledger.clients
 
--- it does so once a call is noted, where its client's session does
+-- it does so once a call is noted, if its client's session does
 seen_noted : (limit : ℕ) (ledger : Ledger) (client : ℕ) (last : Option LastCall) → IfSome last (λ one. one.seen ≤ limit) → AllSeen limit ledger → AllSeen limit (noted ledger client last)
 seen_noted limit ledger client None low all = all
 seen_noted limit ledger client (Some last) low all =
@@ -67,7 +67,7 @@ seen_noted limit ledger client (Some last) low all =
 low_to_note : (limit : ℕ) (ledger : Ledger) (session : Session) (call : Option Call) → session.seen ≤ limit → IfSome (last_to_note ledger session call) (λ one. one.seen ≤ limit)
 low_to_note limit ledger session call low = grind (arith, is_asked)
 
--- a client with a last call stands in the map
+-- a client with a last call is in the map
 found_last : (found : Option (Option LastCall)) (last : LastCall) → unwrap_or found None ≡ Some last → found ≡ Some (Some last)
 found_last None last is = absurd (cc is)
 found_last (Some asked) last is = ap Some is

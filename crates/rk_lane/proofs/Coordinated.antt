@@ -52,7 +52,7 @@ kept_of_sending old parts new event sends seen ready none masters crashed bytes 
       };
     }
 
--- logs fit where others do that are the same
+-- logs fit if others do that are the same
 fits_same : (w after : World) → w.masters ≡ after.masters → Fits w → Fits after
 fits_same w after same fits = record {
   bytes = subst (λ masters. bytes_of_logs (record after { masters = masters }) < MOST_BYTES) same fits.bytes;

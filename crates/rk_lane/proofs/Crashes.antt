@@ -14,7 +14,7 @@ second_false : (a b : Bool) → (a || b) ≡ false → b ≡ false
 second_false false b is = is
 second_false true b is = absurd (cc is)
 
--- a number that is not among those that stand there
+-- a number that is not among those that are there
 apart_push : (x : ℕ) (xs : List ℕ) (m : ℕ) → eqb x m ≡ false → AllByRecursion (λ y. eqb x y ≡ false) xs → AllByRecursion (λ y. eqb x y ≡ false) (xs ++ m ∷ [])
 apart_push x [] m other all = (other, tt)
 apart_push x (y ∷ xs) m other all = (all.0, apart_push x xs m other all.1)
@@ -65,7 +65,7 @@ crashes_fit count xs all distinct =
     let within = length-le_from_distinct_below (0 ∷ xs) (count + 1) (none_is_zero count xs all, distinct) (λ q among. each_low count xs q all among) in
     omega arith
 
--- so there is one less where one more has not crashed
+-- so they are fewer than masters if one more has not crashed
 pub crash_fits : (count : ℕ) (xs : List ℕ) (m : ℕ) → All (IsMaster count) xs → IsDistinct eqb xs → IsMaster count m → list_any (λ x. eqb x m) xs ≡ false → length xs < count
 crash_fits count xs m all distinct there new =
     omega (

@@ -72,7 +72,7 @@ module _ (parts : Parts) (tablet : ℕ) (owner : Owner) (kept : IsKept parts) (o
       → happened (world_of parts stored) (events.Split tablet at new) (Gave None) ≡ quietly (with_coordinator (world_of parts stored) (rows_split parts.coordinator tablet at new))
   split_crashed at new dead stored = by_crash at new stored true dead
 
-  -- one that lives does
+  -- a master that lives does
   pub split_alive : (at new : ℕ) (it : Master) → IsAt parts.masters.items owner.master it → has_crashed (world_of parts []) owner.master ≡ false → (stored : NumberMap Segments)
       → happened (world_of parts stored) (events.Split tablet at new) (Gave None)
       ≡ quietly (with_coordinator (with_master (world_of parts stored) owner.master (with_split it tablet at new (owner.term + 1))) (rows_split parts.coordinator tablet at new))
@@ -81,7 +81,7 @@ module _ (parts : Parts) (tablet : ℕ) (owner : Owner) (kept : IsKept parts) (o
       ∙ ap (λ (m : Master). quietly (with_coordinator (with_master (world_of parts stored) owner.master (with_split m tablet at new (owner.term + 1))) (rows_split parts.coordinator tablet at new)))
       (master_is parts stored owner.master it owner_is_there there)
 
--- it is not refused where the coordinator does not refuse it
+-- it is not refused if the coordinator does not refuse it
 pub split_allowed : (parts : Parts) (tablet at new : ℕ) → tablet_split_fault parts.coordinator tablet at new ≡ None → fault_of (world_of parts []) (events.Split tablet at new) ≡ None
 split_allowed parts tablet at new none = ap (option_map errors.Move) none
 

@@ -8,17 +8,17 @@ use Rattle.rk_lane.specs.Made.{IsReadyFor, worn_for}
 
 -- ---- when it may come
 
--- an event that does not come anyway may come where it is no worse for the lane's being worn
+-- an event that does not come anyway may come if the lane is not worn for it
 pub ready_at : (parts : Parts) (event at : Event) → event ≡ at → comes_anyway at ≡ false → IsReadyFor parts event → IsReady parts at
 ready_at parts event at is waits ready = grind (arith, worn, world_of)
 
--- it is refused by the rules of its kind where the lane is not worn for it
+-- it is refused by the rules of its kind if the lane is not worn for it
 pub refused_for : (parts : Parts) (event : Event) → worn_for parts event ≡ None → refusal (world_of parts []) event ≡ fault_of (world_of parts []) event
 refused_for parts event fresh = grind (arith, comes_anyway, worn, world_of, fault_of)
 
 -- ---- it calls no replica
 
--- one that is no delivery
+-- an event that is no delivery
 pub calls_none : (parts : Parts) (event : Event) → ((number : ℕ) → event ≡ events.Deliver number → ⊥) → CallsNoReplica parts event
 calls_none parts (events.Deliver number) other = absurd (other number refl)
 calls_none parts event other = tt
@@ -32,7 +32,7 @@ pub calls_no_replica : (parts : Parts) (number : ℕ) (message : Message) → ge
     → ((backup : ℕ) → message.to ≡ nodes.Backup backup → ⊥) → CallsNoReplica parts (events.Deliver number)
 calls_no_replica parts number message there other = grind (arith, receiver_of, there, (of_no_backup message.to other))
 
--- so nothing is told of a replica
+-- so no replica reports anything
 told_nothing : (parts : Parts) (stored : NumberMap Segments) (event : Event) → CallsNoReplica parts event → Gave None ≡ told_by_replica (world_of parts stored) event None
 told_nothing parts stored event other = grind (arith, world_of)
 

@@ -14,7 +14,7 @@ pub record Fits (w : World) : Type 0 where
   pub bytes : bytes_of_logs w < MOST_BYTES
   pub masters : EachIn (λ number master. HasRoomIn master) w.masters
 
--- a lane with room stays well formed with room at an event that is not refused, where its logs fit after it
+-- a lane with room stays well formed with room at an event that is not refused, if its logs fit after it
 pub formed_after : (w after : World) (event : Event) (called : Called) → MayStep w event → MayCome called → refusal w event ≡ None
     → IsFormedWithRoom w → (happened w event called).world ≡ after → Fits after → IsFormedWithRoom after
 formed_after w after event called may come none before is fits =
@@ -37,7 +37,7 @@ IsWorldAfter old event called new seen = happened (world_of old []) event called
 
 module _ (old new : Parts) (event : Event) (called : Called) (seen : Seen) (kept : IsKept old) (may : MayStep (world_of old []) event)
     (come : MayCome called) (none : refusal (world_of old []) event ≡ None) (is : IsWorldAfter old event called new seen) where
-  -- the world is well formed then, where its logs fit
+  -- the world is well formed then, if its logs fit
   pub formed_then : Fits (world_of new []) → IsFormedWithRoom (world_of new [])
   formed_then fits =
       formed_after (world_of old []) (world_of new []) event called may come none kept.formed (ap (λ (stepped : Stepped). stepped.world) is) fits

@@ -6,14 +6,14 @@ use Rattle.rk_lane.proofs.Words.{Segments, number_of, replica_of, BackupLane, no
 use Rattle.std.proofs.lemmas.List.{map-append}
 use Rattle.rk_lane.specs.LaneState.{replicas_of}
 
--- what holds where a lane is not spent
+-- what holds if a lane is not spent
 pub unless_spent : {X : Type 0} (P : X → Type 0) (spent : Bool) (x : X) → (spent ≡ false → P x) → IfSome (if spent then None else Some x) P
 unless_spent P true x gives = tt
 unless_spent P false x gives = gives refl
 
 -- ---- backups are made of replicas
 
--- an element of a list with one more behind it stands in the list, or is that one
+-- an element of a list with one more behind it is in the list, or is that one
 record StandsLast {X : Type 0} (xs : List X) (y : X) (place : ℕ) (x : X) : Type 0 where
   last : place ≡ length xs
   is : y ≡ x
@@ -70,9 +70,9 @@ one_given {R} all left rest given now backup replica room left_is now_is of befo
 pub all_given_back : {R : Type 0} (all : List (BackupLane R)) (given : List R) (room : ℕ) → IsGivingBack all [] given room → given ≡ replicas_of all
 all_given_back all given room it = sym (append-nil given) ∙ it.parts
 
--- ---- what replicas tell
+-- ---- what replicas report
 
--- a replica of such backups tells that nothing was ever written, where each of them does
+-- a replica of such backups reports that nothing was ever written, if each of them does
 pub told_new : {R : Type 0} (segments : R → Option Segments) (backups : List (BackupLane R)) (start : ℕ) (whole : List (BackupLane R))
     → ((place : ℕ) (backup : BackupLane R) → slice_get backups place ≡ Some backup → slice_get whole (start + place) ≡ Some backup)
     → All (λ replica. segments replica ≡ Some no_segments) (replicas_of backups)

@@ -54,7 +54,7 @@ module _ (masters : List (Option Master)) (number : ℕ) (there : IsMaster (leng
   pub set_at_number : (it : Master) → IsAt (set masters (number - 1) (Some it)) number it
   set_at_number it = set_there masters (number - 1) (Some it) within
 
--- ---- a master that stands there
+-- ---- a master that is there
 
 -- a master of a list under its number
 pub record StandsAt (masters : List (Option Master)) (number : ℕ) : Type 0 where
@@ -69,7 +69,7 @@ some_at (Some it ∷ rest) zero whole number present within same = record { it =
 some_at (first ∷ rest) (suc place) whole number present within same =
     some_at rest place whole number (All-tail IsSome first rest present) (omega arith) same
 
--- there is one where none is spent
+-- there is one if none is spent
 pub stands_at : (masters : List (Option Master)) (number : ℕ) → All IsSome masters → IsMaster (length masters) number → StandsAt masters number
 stands_at masters number present there = some_at masters (number - 1) masters number present (within masters number there) refl
 
@@ -348,6 +348,6 @@ module _ (old : Parts) (event : Event) (number : ℕ) (it : Master) (worked : Wo
       };
     }
 
-  -- where there is no memory for it, what a spent lane keeps is as it was
+  -- if there is no memory for it, what a spent lane keeps is as it was
   pub work_faulty : (new : Parts) (error : StepError) → IsUnsettled p2 new error → IsFault old event new error
   work_faulty new error lost = grind (arith, length-set)

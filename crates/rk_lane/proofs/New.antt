@@ -7,7 +7,7 @@ use Rattle.std.proofs.lemmas.List.Sums.{sum_by-cons}
 use Rattle.rk_log.specs.Known.{nothing}
 use Rattle.rk_inv_wellformed.proofs.lanes.New.{new_is_well_formed, new_has_room}
 
--- a new master under a number, where there are so many backups
+-- a new master under a number, with so many backups
 abbrev pub new_at : ℕ → ℕ → Option Master
 new_at backups number = Some (new_master number (replicate backups nothing))
 

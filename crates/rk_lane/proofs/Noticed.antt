@@ -23,7 +23,7 @@ first_kept : {X : Type 0} (b : Bool) (x : X) (rest : List X) → cond b (x ∷ [
 first_kept true x rest = refl
 first_kept false x rest = refl
 
--- of the numbers from one on, those that pass a test: the first one, where it does, and those of the rest
+-- of the numbers from a first one on, those that pass a test: the first one, if it does, and those of the rest
 pub filter_next : (p : ℕ → Bool) (first count rest : ℕ) (items : List ℕ) → count ≡ suc rest
     → (items ++ cond (p first) (first ∷ []) []) ++ filter p (range_with_len (first + 1) rest) ≡ items ++ filter p (range_with_len first count)
 filter_next p first count rest items more = grind (arith, append_assoc, first_kept)

@@ -31,7 +31,7 @@ found_from number zero (first ∷ later) master there = grind (arith, found_head
 found_from number (suc place) (first ∷ later) master there =
     grind (arith, found_head, cond-false, eqb, masters_from, ne_eqb, (found_from (number + 1) place later master there))
 
--- what stands under the number of a place is put there
+-- what is put under the number of a place is put there
 pub insert_from : (number place : ℕ) (masters : List (Option Master)) (master : Master) → place < length masters
     → insert (masters_from number masters) (number + place) master ≡ masters_from number (set masters place (Some master))
 insert_from number place [] master within = absurd (omega arith)

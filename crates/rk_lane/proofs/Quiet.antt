@@ -17,11 +17,11 @@ use Rattle.rk_lane.proofs.Refusing.{refused_fresh}
 use Rattle.rk_lane.proofs.Keeping.{formed_then, kept_still}
 use Rattle.rk_lane.proofs.Topped.{still_topped}
 
--- what is seen where nothing was sent and nothing lost
+-- what is seen if nothing was sent and nothing lost
 abbrev pub quiet_seen : Seen
 quiet_seen = record { first = 0; sent = 0; lost = false; taken = None }
 
--- a world becomes another one quietly, where all that stands in that keeps to the greatest number
+-- a world becomes another one quietly, if all that is in that one keeps to the greatest number
 pub quietly_is : (w : World) (seen : Seen) → KeepsTo w.top w → seen ≡ quiet_seen → quietly w ≡ record { world = w; seen = seen }
 quietly_is w seen keeps is = λ i. record { world = still_topped w keeps i; seen = sym is i }
 

@@ -39,7 +39,7 @@ idle_by : (parts : Parts) (node : Node) (stored : NumberMap Segments) → IsRead
     → IsIdle (world_of parts stored) node
 idle_by parts node stored ready made = grind (arith, refused_fresh)
 
--- masters under numbers from this one on, each of which has a property unless it has crashed: so all have that are left without the crashed ones
+-- masters under numbers from this one on, each of which has a property unless it has crashed: so all that are left without those have it
 live_each : (P : ℕ → Type 0) (crashed : ℕ → Bool) (first : ℕ) (masters : List (Option Master)) → ((place : ℕ) → place < length masters → crashed (first + place) ≡ false → P (first + place))
     → All P (numbers (filter (λ entry. not (crashed entry.0)) (masters_from first masters)))
 live_each P crashed first [] each = All-nil P
@@ -57,7 +57,7 @@ live_each P crashed first (master ∷ others) each =
     by true is rest = rest
     by false is rest = let here : first + 0 ≡ first = omega arith in All-cons P first (numbers later) (subst P here (each 0 (omega arith) (ap crashed here ∙ is))) rest
 
--- a lane rests where it is not worn, its coordinator sends nothing, and each of its masters has crashed or sends nothing
+-- a lane rests if it is not worn, its coordinator sends nothing, and each of its masters has crashed or sends nothing
 pub rests_by : (parts : Parts) → IsKept parts → worn (world_of parts []) ≡ None → coordinator_turn parts.coordinator ≡ []
     → ((master : ℕ) → IsMaster (length parts.masters.items) master → has_crashed (world_of parts []) master ≡ false → SendsNothing parts.masters.items master)
     → (stored : NumberMap Segments) → IsResting (world_of parts stored)

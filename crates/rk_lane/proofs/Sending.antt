@@ -23,7 +23,7 @@ pub none_sent : (old : Traffic) (sends : List Message) (sent : Sent) → sent �
     → old.sent + length sends < 2 ^ 60 → IsSending old sends sends old sent
 none_sent old sends sent is lawful room = grind arith
 
--- the number of the first one stays, where one was sent
+-- the number of the first message stays, if one was sent
 first_stays : (old wire : Traffic) (done : List Message) (message : Message) (count first number : ℕ) → wire ≡ fold (λ now m. with_message m now) old done
     → count ≡ length done → first ≡ first_number old done → number ≡ wire.sent + 1
     → (if count == 0 then number else first) ≡ first_number old (done ++ message ∷ [])

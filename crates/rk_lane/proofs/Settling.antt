@@ -8,7 +8,7 @@ use Rattle.rk_world.specs.declared.error.StepError.TheVariants as errors
 use Rattle.rk_lane.specs.Working.{is_nothing}
 use Rattle.rk_lane.proofs.Journals.{cut_to, grown_by_served}
 
--- where its records are taken away again, it is as it was but for marks
+-- if its records are taken away again, it is as it was but for marks
 pub unsettled_by : (old new : Parts) (seen : ℕ) (work : Work) (records : ℕ) → records ≡ length old.ledger.journal
     → new.ledger ≡ with_journal (ledger_worked old.ledger seen work) (take records (ledger_worked old.ledger seen work).journal)
     → new.number ≡ old.number → new.backups ≡ old.backups → new.masters ≡ old.masters → IsUnsettled old new errors.NoMemory
@@ -20,7 +20,7 @@ pub settled_from : (old raised new : Parts) (number seen : ℕ) (work : Work) (s
     → IsFinished raised (sends_worked old.ledger seen work) new shown → IsSettled old number seen work new shown
 settled_from old raised new number seen work shown rise finished = grind (arith, last_stamp, ledger_worked, sends_worked)
 
--- and unsettled where it is cut back
+-- and unsettled if it is cut back
 pub unsettled_from : (old raised new : Parts) (number seen : ℕ) (work : Work) (records : ℕ) (error : StepError) → records ≡ length old.ledger.journal
     → IsRaised (record old { ledger = ledger_worked old.ledger seen work }) number raised
     → IsCutBack raised records new error → IsUnsettled old new error

@@ -126,7 +126,7 @@ pub not_spent : (answer : Result Seen StepError) → answer ≢ Err errors.NoMem
 not_spent (Ok seen) free = refl
 not_spent (Err error) free = grind (arith, error)
 
--- what holds in any case holds where a lane is not spent
+-- what holds in any case holds if a lane is not spent
 pub where_some : {X : Type 0} (found : Option X) (P : Type 0) → P → IfSome found (λ _. P)
 where_some None P holds = tt
 where_some (Some x) P holds = holds

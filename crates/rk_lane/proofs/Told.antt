@@ -37,14 +37,14 @@ map_there {X} f (first ∷ rest) (suc place) x there = map_there f rest place x 
 abbrev pub with_backup : {R : Type 0} → List (BackupLane R) → ℕ → BackupLane R → List (BackupLane R)
 with_backup backups number backup = set backups (number - 1) backup
 
--- what backups store, where what one of them stores has changed, if it was told
+-- what backups store, once what one of them stores has changed, if that was reported
 abbrev pub stored_then : ℕ → (Segments → Segments) → NumberMap Segments → Option Segments → NumberMap Segments
 stored_then number change stored None = stored
 stored_then number change stored (Some its) = insert stored number (change its)
 
--- ---- what one tells
+-- ---- what one reports
 
--- told segments that changed stay told
+-- reported segments that changed are still reported
 pub told_change : (change : Segments → Segments) (old new : Option Segments) (segments : Segments) → WhereTold (λ a b. b ≡ change a) old new → old ≡ Some segments
     → new ≡ Some (change segments)
 told_change change old new segments told is = grind arith
@@ -67,7 +67,7 @@ module _ {R : Type 0} (before : List (BackupLane R)) (number : ℕ) (old new : B
     count_there : slice_get (fault_counts faults before) (number - 1) ≡ Some (faults (replica_of old))
     count_there = map_there (λ (backup : BackupLane R). faults (replica_of backup)) before (number - 1) old there
 
-    -- where its count rose it alone failed
+    -- if its count rose it alone failed
     pub one_failed : (receiver : Option Node) → receiver ≡ Some (nodes.Backup number) → Rose (faults (replica_of old)) (faults (replica_of new)) → OneFailed faults receiver before after
     one_failed receiver whose rose = record {
       place = number - 1;
@@ -79,7 +79,7 @@ module _ {R : Type 0} (before : List (BackupLane R)) (number : ℕ) (old new : B
       rose = rose;
     }
 
-    -- where it stays they all do
+    -- if it stays they all do
     pub none_failed : faults (replica_of new) ≡ faults (replica_of old) → fault_counts faults after ≡ fault_counts faults before
     none_failed same =
         counts_set
@@ -91,7 +91,7 @@ module _ {R : Type 0} (before : List (BackupLane R)) (number : ℕ) (old new : B
   module _ (segments : R → Option Segments) (change : Segments → Segments)
       (told : WhereTold (λ a b. b ≡ change a) (segments (replica_of old)) (segments (replica_of new)))
       (stored : NumberMap Segments) (are : AreTold segments before stored) where
-    -- what another one tells it still does
+    -- what another one reports it still does
     other_tells : (q : ℕ) (its : Segments) → (q ≡ number → ⊥) → IsTold segments before q its → IsTold segments after q its
     other_tells q its apart tells = record {
       place = tells.place;
@@ -101,7 +101,7 @@ module _ {R : Type 0} (before : List (BackupLane R)) (number : ℕ) (old new : B
       tells = tells.tells;
     }
 
-    -- what it told has changed
+    -- what it reported has changed
     it_tells : (its : Segments) → IsTold segments before number its → IsTold segments after number (change its)
     it_tells its tells =
         let place : tells.place ≡ number - 1 = omega (arith, tells.number_is) in
@@ -117,7 +117,7 @@ module _ {R : Type 0} (before : List (BackupLane R)) (number : ℕ) (old new : B
               (ap (λ (backup : BackupLane R). segments (replica_of backup)) (sym same) ∙ tells.tells);
         }
 
-    -- that is what they tell then
+    -- that is what they report then
     pub told_then : (found : Option Segments) → get stored number ≡ found → AreTold segments after (stored_then number change stored found)
     told_then None found q its at =
         other_tells q its

@@ -6,18 +6,18 @@ use Rattle.rk_inv_wellformed.proofs.maps.Lists.{all_back, all_given}
 use Rattle.rk_inv_wellformed.proofs.room.Rises.{top_within}
 use Rattle.rk_inv_wellformed.proofs.lanes.Worlds.{IsLimit, counters_in, seen_within, sent_within, stamp_within, stamps_seen, terms_in, terms_within, top_is_limit}
 
--- where all that stands keeps to a number, and the greatest is not below it, it is the greatest
+-- if all that is in a world keeps to a number, and the greatest is not below it, it is the greatest
 pub topped : (w : World) (top : ℕ) → KeepsTo top w → top ≤ (with_top w).top → with_top w ≡ record w { top = top }
 topped w top keeps reached =
     let most : (with_top w).top ≤ top = top_within top w keeps in
     let same : max w.top (greatest (standing w)) ≡ top = omega arith in
     ap (λ (t : ℕ). record w { top = t }) same
 
--- where all that stands keeps to what was the greatest, it stays
+-- if all that is in a world keeps to what was the greatest, it stays
 pub still_topped : (w : World) → KeepsTo w.top w → with_top w ≡ w
 still_topped w keeps = topped w w.top keeps (omega arith)
 
--- all that stands keeps to the greatest once it is counted
+-- all that is in a world keeps to the greatest once it is counted
 pub keeps_once_topped : (w : World) → KeepsTo (with_top w).top w
 keeps_once_topped w =
     let limit : ℕ = (with_top w).top in

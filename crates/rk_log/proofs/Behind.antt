@@ -38,7 +38,7 @@ in_last_is front last bytes =
     let at : length (front ++ last ∷ []) - 1 ≡ length front = omega (arith, length-append front (last ∷ [])) in
     (λ i. set (front ++ last ∷ []) (at i) (last_is front last i ++ bytes)) ∙ set-append_seam front last [] (last ++ bytes)
 
--- what stands before it stays
+-- what is before it stays
 with_front : (front : List (List ℕ)) (last : List ℕ) (entries : List Entry) → cut_after (front ++ last ∷ []) entries ≡ front ++ behind last entries
 with_front front last [] = refl
 with_front front last (x ∷ entries) =
@@ -60,7 +60,7 @@ from_front : (segments : List (List ℕ)) → spelled_in segments ≡ spelled_be
 from_front [] = refl
 from_front (x ∷ segments) = refl
 
--- what is read behind bytes that the last segment begins with: the entries that stand there, and all that follow
+-- what is read behind bytes that the last segment begins with: the entries that are there, and all that follow
 read_behind_is : (front : List ℕ) (own more : List Entry) → AllByRecursion IsLawfulEntry own → AllByRecursion IsLawfulEntry more
     → spelled_behind (length front) (behind (front ++ spelled_all own) more) ≡ own ++ more
 read_behind_is front own [] lawful rest = grind (arith, append-nil, drop-append_seam, read_again)
@@ -122,9 +122,9 @@ entries_behind entries (suc place) le lawful =
     (drop ((ends_at [] entries place (record { segment = 1; offset = 0 }) (omega arith) i).segment - 1) (sym whole i)))
     ∙ read_after before (drop (suc place) entries) (some_cut entries place (omega arith)) (lawful_behind (suc place) entries lawful)
 
--- ---- what the parts of a log tell
+-- ---- what the parts of a log show
 
--- where the entry before a place ends, where there is one
+-- where the entry before a place ends, if there is one
 pub start_is : (parts : Parts) (log : Log) (place : ℕ) (end : EntryEnd) → IsConsistent parts → log_of parts ≡ log → place ≤ length log.entries → 0 < place
     → end ≡ get_or parts.ends (place - 1) end → end ≡ start_of log.entries place
 start_is parts log place end consistent is le some there = grind (arith, get_or_default, length-ends)

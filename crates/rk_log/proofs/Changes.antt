@@ -43,7 +43,7 @@ pub side_shown : (parts : Parts) (side : Copied) (bytes : List ℕ) (log : Log) 
     → side.segment.bytes ≡ bytes → side.known ≡ none_known → log_of (with_side_in parts side) ≡ with_side log bytes
 side_shown parts side bytes log is same unknown = grind (arith, map_push, known_from_push, zeros_at)
 
--- a length that a backup told
+-- a length that a backup reported
 pub told_shown : (parts : Parts) (main' sides' : List Copied) (log : Log) (number backup size : ℕ) (cursor : Cursor)
     → IsConsistent parts → log_of parts ≡ log → backup - 1 < length parts.cursors
     → Raised FIRST_SEGMENT number (backup - 1) size parts.main main' → Raised FIRST_SIDE_SEGMENT number (backup - 1) size parts.sides sides'
@@ -52,7 +52,7 @@ pub told_shown : (parts : Parts) (main' sides' : List Copied) (log : Log) (numbe
 told_shown parts main' sides' log number backup size cursor consistent is within raised raised_sides enough =
     grind (arith, length-set, known_told, length-map, copied_before, copied_past)
 
--- a backup tells no more than there is
+-- a backup reports no more than there is
 pub told_enough : (parts : Parts) (log : Log) (number size : ℕ) → IsConsistent parts
     → log_of parts ≡ log → size ≤ length (bytes_of log number) → size ≤ length (bytes_among number parts.main parts.sides)
 told_enough parts log number size consistent is le =
@@ -70,7 +70,7 @@ pub size_side : (parts : Parts) (side : Copied) (bytes : List ℕ) (size count :
     → size ≡ segment_bytes (log_of parts) → side.segment.bytes ≡ bytes → count ≡ length bytes → size + count ≡ segment_bytes (log_of (with_side_in parts side))
 size_side parts side bytes size count is same counted = grind (arith, map_push, sum_by_push)
 
--- a told length changes none
+-- a reported length changes none
 pub size_told : (parts : Parts) (main' sides' : List Copied) (backup : ℕ) (cursor : Cursor) (size : ℕ)
     → size ≡ segment_bytes (log_of parts) → bytes_in sides' ≡ bytes_in parts.sides → size ≡ segment_bytes (log_of (told_in parts main' sides' backup cursor))
 size_told parts main' sides' backup cursor size is same =

@@ -20,7 +20,7 @@ use Rattle.rk_entry.specs.Lawful.{IsLawfulEntry}
 use Rattle.rk_log.proofs.CutLaws.{lawful_push}
 use Rattle.rk_log.proofs.Grown.{Grew, grew, known_push, Rose, Raised, rose_in, known_told_lists, among_main_is, among_sides_is}
 
--- ---- what the parts tell
+-- ---- what the parts show
 
 -- each entry ends in one of the main segments
 pub places_within : (parts : Parts) → IsConsistent parts → AreWithin (length parts.main) parts.ends
@@ -47,7 +47,7 @@ with_entry_in parts main' entry = record parts { entries = parts.entries ++ entr
 abbrev pub with_side_in : Parts → Copied → Parts
 with_side_in parts side = record parts { sides = parts.sides ++ side ∷ [] }
 
--- after a backup told a length, which these segments have now
+-- after a backup reported a length, which these segments have now
 abbrev pub told_in : Parts → List Copied → List Copied → ℕ → Cursor → Parts
 told_in parts main' sides' backup cursor = record parts {
   committed = parts.committed + prefix_len (is_held_at (length parts.cursors) (lengths_in main')) (drop parts.committed parts.ends);
@@ -146,7 +146,7 @@ consistent_side parts side consistent unknown few =
           };
     }
 
--- ---- what a backup told
+-- ---- what a backup reported
 
 -- the furthest cursor is one
 pub cursor_is : (backup : ℕ) (main sides : List Copied) → IsCursor backup main sides (cursor_at backup main sides)

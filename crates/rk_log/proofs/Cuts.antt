@@ -34,7 +34,7 @@ pub length-ends : (segments : List (List ℕ)) (entries : List Entry) → length
 length-ends segments [] = refl
 length-ends segments (x ∷ entries) = ap suc (length-ends (with_bytes segments (spelled x)) entries)
 
--- where there is room there is a segment
+-- if there is room there is a segment
 pub room_some : (segments : List (List ℕ)) (bytes : List ℕ) → has_room segments bytes ≡ true → 0 < length segments
 room_some segments bytes e = ltb-true 0 (length segments) (and_parts (ltb 0 (length segments)) _ e).0
 

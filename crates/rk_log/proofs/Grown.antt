@@ -44,7 +44,7 @@ grew_last bytes lengths more same known some filled = grind (arith, length-set, 
 grew_more : (bytes lengths : List (List ℕ)) (more : List ℕ) → length bytes ≡ length lengths → AreKnown bytes lengths → 0 < length more → Grew bytes lengths (bytes ++ more ∷ []) (lengths ++ none_known ∷ [])
 grew_more bytes lengths more same known some = grind (arith, length-append, get_or_append_left, known_push, get_or_push, zeros_at)
 
--- in the last segment where they fit, and else in one more
+-- in the last segment if they fit, and else in one more
 pub grew : (bytes lengths : List (List ℕ)) (more : List ℕ) (bytes' lengths' : List (List ℕ)) → length bytes ≡ length lengths → AreKnown bytes lengths → 0 < length more
     → bytes' ≡ with_bytes bytes more → lengths' ≡ cond (has_room bytes more) lengths (lengths ++ none_known ∷ []) → (has_room bytes more ≡ true → 0 < length bytes) → Grew bytes lengths bytes' lengths'
 grew bytes lengths more bytes' lengths' same known some put put_lengths room =
@@ -63,7 +63,7 @@ grew bytes lengths more bytes' lengths' same known some put put_lengths room =
 
 -- ---- known lengths that rise
 
--- no length goes past a bound that holds of it and of what was told
+-- no length goes past a bound that holds of it and of what was reported
 told_within : (lengths : List ℕ) (backup size bound : ℕ) → ((x : ℕ) → get_or lengths x 0 ≤ bound) → size ≤ bound → (x : ℕ) → get_or (with_told_length backup size lengths) x 0 ≤ bound
 told_within [] backup size bound all le x = all x
 told_within (l ∷ lengths) zero size bound all le zero = omega (arith, all zero)
@@ -93,7 +93,7 @@ rose_at [] at backup size = rose_not []
 rose_at (l ∷ lists) zero backup size = grind (arith, length-set, told_rises)
 rose_at (l ∷ lists) (suc at) backup size = grind (arith, (rose_at lists at backup size))
 
--- what a backup tells lowers no length
+-- what a backup reports lowers no length
 pub rose : (first number backup size : ℕ) (lists : List (List ℕ)) → Rose lists (with_length first number backup size lists)
 rose first number backup size lists =
     ⊎_elim
@@ -101,7 +101,7 @@ rose first number backup size lists =
     (λ (h : first ≤ number). subst (Rose lists) (sym (with_length_at first number backup size (number - first) lists (omega arith))) (rose_at lists (number - first) backup size))
     (cases_lt number first)
 
--- segments once a backup told a length: their bytes stay, and it is known of one of them
+-- segments once a backup reported a length: their bytes stay, and it is known of one of them
 pub record Raised (first number backup size : ℕ) (segments segments' : List Copied) : Type 0 where
   pub bytes : bytes_in segments' ≡ bytes_in segments
   pub lengths : lengths_in segments' ≡ with_length first number backup size (lengths_in segments)
@@ -122,7 +122,7 @@ pub rose_in : (first number backup size : ℕ) (segments segments' : List Copied
 rose_in first number backup size segments segments' raised =
     subst (Rose (lengths_in segments)) (sym raised.lengths) (rose first number backup size (lengths_in segments))
 
--- where it tells no more than there is, no known length is above the segment's
+-- if it reports no more than there is, no known length is above the segment's
 pub known_told_lists : (first number backup size : ℕ) (bytes lengths : List (List ℕ)) → AreKnown bytes lengths → ((k : ℕ) → first + k ≡ number → k < length lengths → size ≤ length (get_or bytes k []))
     → AreKnown bytes (with_length first number backup size lengths)
 known_told_lists first number backup size bytes lengths known le =

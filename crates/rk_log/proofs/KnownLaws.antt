@@ -21,7 +21,7 @@ greater_more o l h = cond-false (ltb (unwrap_or o 0) l) (Some l) o (le-ltb _ _ h
 greater_twice : (o : Option ℕ) (x y : ℕ) → greater_of (greater_of o x) y ≡ greater_of o (max x y)
 greater_twice o x y = grind (arith, greater_less, greater_more, cases_lt)
 
--- what is known of a segment once a length was told
+-- what is known of a segment once a length was reported
 pub get_told : (known : Known) (segment length q : ℕ) → get (told known segment length) q ≡ cond (eqb q segment) (greater_of (get known q) length) (get known q)
 get_told known segment length q =
     cond_both (ltb (known_length known segment) length) (insert known segment length) known
@@ -52,7 +52,7 @@ get_told known segment length q =
 pub told_in_order : (known : Known) (segment length : ℕ) → IsInOrder known → IsInOrder (told known segment length)
 told_in_order known segment length order = grind (arith, cond_both, ltb, in_order_insert)
 
--- the length that is known of the segment that was told of is the greater
+-- the known length of the segment that a length was reported of is the greater
 pub told_length : (known : Known) (segment length q : ℕ) → q ≡ segment → known_length (told known segment length) q ≡ max (known_length known q) length
 told_length known segment length q same = grind (arith, get_told, cond-true, eq-eqb, greater_less, greater_more, cases_lt)
 
@@ -65,15 +65,15 @@ told_other known segment length q other =
 pub told_more : (known : Known) (segment length q : ℕ) → known_length known q ≤ known_length (told known segment length) q
 told_more known segment length q = grind (arith, told_length, told_other, cases_eq)
 
--- no bytes tell nothing
+-- no bytes reported change nothing
 pub told_none : (known : Known) (segment : ℕ) → told known segment 0 ≡ known
 told_none known segment = cond-false (ltb (known_length known segment) 0) (insert known segment 0) known (le-ltb _ _ (omega arith))
 
--- two lengths of one segment tell the greater
+-- two lengths reported of one segment come to the greater
 pub told_twice : (known : Known) (segment x y : ℕ) → IsInOrder known → told (told known segment x) segment y ≡ told known segment (max x y)
 told_twice known segment x y order = grind (arith, same_map, told_in_order, get_told, eqb, greater_twice)
 
--- the order of what is told does not matter
+-- the order of what is reported does not matter
 pub told_comm : (known : Known) (a x b y : ℕ) → IsInOrder known → told (told known a x) b y ≡ told (told known b y) a x
 told_comm known a x b y order =
     same_map (told (told known a x) b y) (told (told known b y) a x)
@@ -123,7 +123,7 @@ known_within backup first (l ∷ lists) others (suc k) q e h none =
     told_other (known_from backup (suc first) lists others) first (get_or l backup 0) q (λ same. omega arith)
     ∙ known_within backup (suc first) lists others k q (omega arith) (omega arith) none
 
--- what is told of others beside them
+-- what is reported of others beside them
 pub known_from_told : (backup first : ℕ) (lists : List (List ℕ)) (others : Known) (q length : ℕ) → IsInOrder others
     → known_from backup first lists (told others q length) ≡ told (known_from backup first lists others) q length
 known_from_told backup first [] others q length order = refl
@@ -135,7 +135,7 @@ pub known_from_push : (backup first : ℕ) (lists : List (List ℕ)) (l : List �
 known_from_push backup first [] l others none = ap (told others first) none ∙ told_none others first
 known_from_push backup first (x ∷ lists) l others none = ap (λ (known : Known). told known first (get_or x backup 0)) (known_from_push backup (suc first) lists l others none)
 
--- what a backup tells of one of them
+-- what a backup reports of one of them
 pub known_from_set : (backup first : ℕ) (lists : List (List ℕ)) (others : Known) (k q size : ℕ) → first + k ≡ q → k < length lists
     → backup < length (get_or lists k []) → IsInOrder others
     → known_from backup first (set lists k (with_told_length backup size (get_or lists k []))) others ≡ told (known_from backup first lists others) q size
@@ -145,7 +145,7 @@ known_from_set backup first (l ∷ lists) others (suc k) q size e h w order =
     ap (λ (known : Known). told known first (get_or l backup 0)) (known_from_set backup (suc first) lists others k q size (omega arith) (omega arith) w order)
     ∙ told_comm (known_from backup (suc first) lists others) q size first (get_or l backup 0) (known_in_order backup (suc first) lists others order)
 
--- what another backup tells changes nothing
+-- what another backup reports changes nothing
 pub known_from_other : (backup teller first : ℕ) (lists : List (List ℕ)) (others : Known) (k size : ℕ) → (backup ≡ teller → ⊥)
     → known_from backup first (set lists k (with_told_length teller size (get_or lists k []))) others ≡ known_from backup first lists others
 known_from_other backup teller first [] others k size other = refl

@@ -30,7 +30,7 @@ committed_held log place backup h numbered = at (slice_get (ends log.entries) pl
 pub committed_entry : (log : Log) (entry : Entry) → committed log ≤ committed (with_entry log entry)
 committed_entry log entry = grind (arith, prefix_len_push_le, ends_push)
 
--- a told length
+-- a reported length
 pub committed_told : (log : Log) (backup segment size : ℕ) → committed log ≤ committed (with_told log backup segment size)
 committed_told log backup segment size =
     grind (arith, prefix_len_weaker, list_all-set, le-leb, leb-true, list_all_each, told_more, set_past, cases_lt)

@@ -120,22 +120,22 @@ committed_is backups main sides ends within few le =
     let places = within k d h in
     held_is backups main sides (get_or ends k d) places.0 places.1 few (le ((get_or ends k d).segment - 1) (omega (arith, places.0, places.1))))
 
--- ---- what a backup tells
+-- ---- what a backup reports
 
 -- nothing of segments that are not there
 pub with_length_before : (first number backup size : ℕ) (lists : List (List ℕ)) → number < first → with_length first number backup size lists ≡ lists
 with_length_before first number backup size lists h = cond-true (ltb number first) lists _ (lt-ltb number first h)
 
--- of one that is there its length
+-- of a segment that is there its length
 pub with_length_at : (first number backup size k : ℕ) (lists : List (List ℕ)) → first + k ≡ number → with_length first number backup size lists ≡ set lists k (with_told_length backup size (get_or lists k []))
 with_length_at first number backup size k lists e = grind (arith, cond-false, ltb, le-ltb)
 
--- what it tells of these segments
+-- what it reports of these segments
 pub known_from_with_length : (first number backup size : ℕ) (lists : List (List ℕ)) (others : Known) (k : ℕ) → first + k ≡ number → k < length lists → backup < length (get_or lists k []) → IsInOrder others
     → known_from backup first (with_length first number backup size lists) others ≡ told (known_from backup first lists others) number size
 known_from_with_length first number backup size lists others k e h w order = grind (arith, with_length_at, known_from_set)
 
--- where a segment stands: among the main ones, among the side ones, or nowhere
+-- where a segment is: among the main ones, among the side ones, or nowhere
 pub data Place (main sides number : ℕ) : Type 0 where
   among_main : (k : ℕ) → FIRST_SEGMENT + k ≡ number → k < main → Place main sides number
   among_sides : (k : ℕ) → FIRST_SIDE_SEGMENT + k ≡ number → k < sides → Place main sides number

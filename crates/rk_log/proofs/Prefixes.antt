@@ -55,7 +55,7 @@ list_all_greater bound (suc n) (x ∷ xs) (y ∷ ys) same le h =
     and_from (leb bound y) (list_all (leb bound) (take n ys)) (le-leb bound y (omega arith))
     (list_all_greater bound n xs ys (omega arith) (λ k. le (suc k)) parts.1)
 
--- where the first number is too small, not all pass a bound
+-- if the first number is too small, not all pass a bound
 pub list_all_small : (bound n : ℕ) (xs : List ℕ) → 1 ≤ n → 1 ≤ length xs → get_or xs 0 0 < bound → list_all (leb bound) (take n xs) ≡ false
 list_all_small bound holds xs n some small = grind (arith, leb, lt-leb)
 

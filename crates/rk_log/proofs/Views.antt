@@ -23,7 +23,7 @@ use Rattle.rk_log.proofs.Cuts.{length-ends}
 use Rattle.rk_log.proofs.Lookups.{copied_before, copied_at, shown, find_numbered, bytes_are, lacking_is, main_length, side_length, known_of_backup, length-known_by, all_reach, committed_is}
 use Rattle.rk_log.proofs.Consistency.{places_within, count_within}
 
--- what follows where a call succeeds
+-- what follows if a call succeeds
 pub on_true : {A E : Type 0} (b : Bool) (r : Result A E) (P Q : Type 0) → b ≡ is_ok r → OnOk r P → (P → Q) → OnTrue b Q
 on_true b r P Q e p f = grind arith
 
@@ -90,7 +90,7 @@ pending_among : (known : Known) (backup : ℕ) (main sides : List Copied)
     ≡ option_or (lacking_at backup FIRST_SEGMENT main (prefix_len (is_whole_at backup) main)) (lacking_at backup FIRST_SIDE_SEGMENT sides (prefix_len (is_whole_at backup) sides))
 pending_among known backup main sides of_main of_sides = grind (arith, find-append, lacking_is)
 
--- what the parts tell of one backup
+-- what the parts record of one backup
 abbrev own_known : Parts → ℕ → Known
 own_known parts backup = known_at (lengths_in parts.main) (lengths_in parts.sides) (backup - 1)
 

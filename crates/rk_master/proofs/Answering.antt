@@ -13,7 +13,7 @@ pub pull_answered : (master : Master) (sender : Node) (pull : Pull) (tablet : Ta
     → sending master (batch_answer master sender tablet.handover.range pull) ≡ pull_taken master sender pull
 pull_answered master sender pull tablet there frozen = grind (arith, cond-true, changed)
 
--- and one that is not does not
+-- and a tablet that is not frozen does not
 pub pull_ignored : (master : Master) (sender : Node) (pull : Pull) (tablet : Tablet) → tablet_at master pull.tenure.tablet ≡ tablet → is_frozen_at tablet pull.tenure.term ≡ false
     → changed master ≡ pull_taken master sender pull
 pull_ignored master sender pull tablet there not_frozen = grind (arith, cond-false, changed)
@@ -23,7 +23,7 @@ pub want_answered : (master : Master) (sender : Node) (want : Want) (tablet : Ta
     → sending master (want_answer master sender tablet.handover.range want) ≡ want_taken master sender want
 want_answered master sender want tablet there frozen = grind (arith, cond-true, changed)
 
--- and one that is not does not
+-- and a tablet that is not frozen does not
 pub want_ignored : (master : Master) (sender : Node) (want : Want) (tablet : Tablet) → tablet_at master want.tenure.tablet ≡ tablet → is_frozen_at tablet want.tenure.term ≡ false
     → changed master ≡ want_taken master sender want
 want_ignored master sender want tablet there not_frozen = grind (arith, cond-false, changed)

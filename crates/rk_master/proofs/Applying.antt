@@ -18,33 +18,33 @@ behind_changed work master = grind (arith, append-nil, marks_of)
 pub entry_item_is : (master : Master) (entry : Entry) → record master { records = with_items_of entry master.records } ≡ with_entry_item master entry
 entry_item_is master entry = grind arith
 
--- no call ends where none waits
+-- no call ends if none waits
 pub ended_none : (master : Master) (place : ℕ) (call : Option Call) (ends : List Ended) → call ≡ None → with_ended master place call ends ≡ changed master
 ended_none master place call ends none = ap (λ (o : Option Call). with_ended master place o ends) none
 
--- nothing is told where no first end is
+-- no end is recorded if there is no first one
 told_nothing : (ends : List Ended) → slice_get ends 0 ≡ None → ends ≡ []
 told_nothing [] none = refl
 told_nothing (end ∷ ends) none = cc none
 
--- an entry that tells no end
+-- an entry that records no end
 pub applied_quietly : (master : Master) (entry : Entry) → slice_get (told_by entry) 0 ≡ None → changed (with_applied (with_entry_item master entry)) ≡ apply_entry master entry
 applied_quietly master entry none = grind (arith, told_nothing, told_by)
 
--- an entry that tells an end
+-- an entry that records an end
 pub applied_ending : (master after : Master) (entry : Entry) (end : Ended) → after ≡ with_applied (with_entry_item master entry) → slice_get (told_by entry) 0 ≡ Some end
     → with_ended after master.applied (get after.calls master.applied) (end ∷ drop 1 (told_by entry)) ≡ apply_entry master entry
 applied_ending master after entry end after_is some = grind (arith, told_by, entry_item_is)
 
 -- ---- the entries that all backups hold
 
--- an entry stands at each place of a log, or of another list
+-- there is an entry at each place of a log, or of another list
 pub stands : {X : Type 0} (all : List X) (place : ℕ) → place < length all → (entry : X) × (slice_get all place ≡ Some entry)
 stands [] place within = absurd (omega (arith, within))
 stands (entry ∷ all) zero within = (entry, refl)
 stands (entry ∷ all) (suc place) within = stands all place (omega (arith, within))
 
--- the same stands there in a first part of the log
+-- the same entry is there in a first part of the log
 in_part : (all : List Entry) (count place : ℕ) → place < count → slice_get (take count all) place ≡ slice_get all place
 in_part [] zero place within = refl
 in_part [] (suc count) place within = refl
@@ -52,7 +52,7 @@ in_part (entry ∷ all) zero place within = absurd (omega (arith, within))
 in_part (entry ∷ all) (suc count) zero within = refl
 in_part (entry ∷ all) (suc count) (suc place) within = in_part all count place (omega (arith, within))
 
--- nothing is left where all that backups hold is applied
+-- nothing is left if all that backups hold is applied
 pub none_held : (all : List Entry) (count place : ℕ) → count ≤ place → drop place (take count all) ≡ []
 none_held [] zero zero done = refl
 none_held [] zero (suc place) done = refl

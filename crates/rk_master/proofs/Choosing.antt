@@ -12,7 +12,7 @@ use Rattle.rk_world.specs.Requests.{mutation_choice}
 abbrev Row : Type 0
 Row = ℕ × TabletLane
 
--- the tablet that a search found is the one that is served
+-- the tablet that a search found is the tablet that is served
 pub served_found : (master : Master) (rows lent : List Row) (table : ℕ) (key : List ℕ) (result : Option (Bor Row)) (row : Bor Row)
     → master.tablets ≡ tablets_of rows → lent ≡ rows
     → option_map (λ entry. (entry.0, tablet_of entry.1)) (option_copied result) ≡ find (λ entry. serves_key table key entry.1) (tablets_of lent)

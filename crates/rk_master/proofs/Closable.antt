@@ -8,7 +8,7 @@ use Rattle.rk_entry.specs.declared.entry.Joined.{Joined}
 use Rattle.rk_transfer.specs.declared.role.Role.TheVariants as roles
 use Rattle.rk_master.proofs.Places.{at_itself, order_there}
 
--- what the entry that closes the role of a tablet tells
+-- what the entry that closes the role of a tablet records
 abbrev pub closing_joined : Tablet → Joined
 closing_joined tablet = record { range = tablet.handover.range; term = tablet.handover.term; segments = tablet.pulling.sealed }
 
@@ -16,7 +16,7 @@ closing_joined tablet = record { range = tablet.handover.range; term = tablet.ha
 pub closable_in : (tablet : Tablet) (role : Role) → tablet.handover.role ≡ role → ((joined : Joined) → can_close role joined) → IsClosable tablet
 closable_in tablet role is can = subst (λ (r : Role). can_close r (closing_joined tablet)) (sym is) (can (closing_joined tablet))
 
--- it can in the role of a target that pulls, where its range and its term can be spelled
+-- it can in the role of a target that pulls, if its range and its term can be spelled
 pub closable_as : (tablet : Tablet) → tablet.handover.role ≡ roles.Receiving → IsLawfulRange tablet.handover.range × IsNumber w64 1 tablet.handover.term → IsClosable tablet
 closable_as tablet is can = subst (λ (r : Role). can_close r (closing_joined tablet)) (sym is) can
 
@@ -57,7 +57,7 @@ given_up_closable kept range number tablet lawful = grind (arith, eqb)
 
 -- ---- the tablets of a master
 
--- they stay lawful where one is changed at its place and what closes its role can be spelled
+-- they stay lawful if one is changed at its place and what closes its role can be spelled
 pub lawful_set : (rows : List Row) (i : ℕ) (d : Row) (lane : TabletLane) → i < length rows → AreTablets rows → IsClosable (tablet_of lane)
     → AreTablets (set rows i ((get_or rows i d).0, lane))
 lawful_set rows i d lane within old new = record {
@@ -65,7 +65,7 @@ lawful_set rows i d lane within old new = record {
   closable = closable_set rows i ((get_or rows i d).0, lane) old.closable new;
 }
 
--- so they do where it was read there
+-- so they do if it was read there
 pub lawful_read : (rows : List Row) (i : ℕ) (read : Row) (lane : TabletLane) → i < length rows → read ≡ get_or rows i read → AreTablets rows → IsClosable (tablet_of lane)
     → AreTablets (set rows i (read.0, lane))
 lawful_read rows i read lane within is old new =

@@ -34,7 +34,7 @@ pub has_moved : (moved : Option Handover) (old new : Handover) → is_some moved
 has_moved None old new applied is = absurd (false≢true applied)
 has_moved (Some after) old new applied is = ap Some (sym is)
 
--- one that did not
+-- a move that did not apply
 pub not_moved : (moved : Option Handover) → is_some moved ≡ false → moved ≡ None
 not_moved None failed = refl
 not_moved (Some after) failed = absurd (false≢true (sym failed))
@@ -71,7 +71,7 @@ moved_lane lane handover = record lane { handover = handover }
 abbrev pub with_rows : Master → List Row → Master
 with_rows master rows = record master { tablets = tablets_of rows }
 
--- the tablet of a number stands where it stood, after it was changed there
+-- the tablet of a number is at the place it was at, after it was changed there
 pub at_set : (rows : List Row) (number i : ℕ) (read : Row) (lane : TabletLane) → IsAt number rows i → read ≡ get_or rows i read → IsAt number (set rows i (read.0, lane)) i
 at_set rows number i read lane at is = grind (arith, length-set, get_or-set_same)
 
@@ -92,12 +92,12 @@ tablet_set rows number i read lane order at is =
     ap (λ (tablets : NumberMap Tablet). unwrap_or (get tablets number) no_tablet) (changed_read rows number i read lane order at is)
     ∙ ap (λ (o : Option Tablet). unwrap_or o no_tablet) (get_same (tablets_of rows) number (tablet_of lane) number refl)
 
--- what was put at a place stands there
+-- what was put at a place is there
 pub set_there : (rows : List Row) (i : ℕ) (row : Row) → i < length rows → slice_get (set rows i row) i ≡ Some row
 set_there rows i row within =
     slice_get-get_or (set rows i row) i row (omega (arith, length-set rows i row, within)) ∙ ap Some (get_or-set_same rows i row row within)
 
--- a tablet whose handover stays stands as it stood
+-- a tablet whose handover stays is as it was
 pub same_set : (rows : List Row) (i : ℕ) (read : Row) (handover : Handover) → handover ≡ read.1.handover → read ≡ get_or rows i read
     → set rows i (read.0, moved_lane read.1 handover) ≡ rows
 same_set rows i read handover same is =
@@ -112,7 +112,7 @@ move_made master rows number i read handover lane order at is lane_is =
 
 -- ---- a Close
 
--- a tablet that closed, and was frozen where nothing of it is staged
+-- a tablet that closed, and was frozen if nothing of it is staged
 pub closing_so : (master after : Master) (rows : List Row) (number i : ℕ) (read : Row) (handover : Handover) (moved : Option Handover) (lane : TabletLane)
     → IsInOrder rows → IsAt number rows i → read ≡ get_or rows i read
     → moved ≡ Some handover → tablet_of lane ≡ without_merged (tablet_of (moved_lane read.1 handover))
@@ -128,17 +128,17 @@ closing_so master after rows number i read handover moved lane order at is moved
     ∙ ap (λ (m : Master). freezing m number (tablet_at m number) (frozen handover handover.term)) (move_made master rows number i read handover lane order at is lane_is)
     ∙ sym (ap (closing (with_rows master rows) number) moved_is)
 
--- what is told of a tablet
+-- what is sent of a tablet
 abbrev telling : Master → Tenure → Tablet → Worked
 telling master tenure tablet = cond (is_frozen_at tablet tenure.term) (sending master (transfer master tenure tablet)) (changed master)
 
--- what the next owner of a frozen tablet has to know is told
+-- what the next owner of a frozen tablet has to know is sent
 pub is_told : (master : Master) (tenure : Tenure) (tablet : Tablet) → tablet_at master tenure.tablet ≡ tablet → is_frozen_at tablet tenure.term ≡ true
     → sending master (transfer master tenure tablet) ≡ transferring master tenure
 is_told master tenure tablet there frozen_now =
     sym (ap (telling master tenure) there ∙ cond-true (is_frozen_at tablet tenure.term) (sending master (transfer master tenure tablet)) (changed master) frozen_now)
 
--- and of one that is not frozen nothing
+-- and of a tablet that is not frozen nothing is
 pub not_told : (master : Master) (tenure : Tenure) (tablet : Tablet) → tablet_at master tenure.tablet ≡ tablet → is_frozen_at tablet tenure.term ≡ false
     → changed master ≡ transferring master tenure
 not_told master tenure tablet there not_frozen =
@@ -146,7 +146,7 @@ not_told master tenure tablet there not_frozen =
 
 -- ---- an Own
 
--- one that does not apply
+-- an Own that does not apply
 pub own_failed : (master : Master) (tenure : Tenure) (tablet : Tablet) → tablet_at master tenure.tablet ≡ tablet → owned tablet.handover tenure.term master.applied ≡ None
     → changed master ≡ own_taken master tenure
 own_failed master tenure tablet there none =
@@ -162,7 +162,7 @@ own_made master rows i read handover lane tenure order at is moved lane_is =
 
 -- ---- a Release
 
--- one that does not apply
+-- a Release that does not apply
 pub release_failed : (master : Master) (tenure : Tenure) (tablet : Tablet) → tablet_at master tenure.tablet ≡ tablet → released tablet.handover tenure.term ≡ None
     → changed master ≡ release_taken master tenure
 release_failed master tenure tablet there none =
@@ -225,7 +225,7 @@ ready_so master tenure role term from role_is term_is = grind (arith, cond-true,
 pub granted_role : (handover after : Handover) (term counter : ℕ) → granted handover term counter ≡ Some after → after.role ≡ roles.Receiving
 granted_role handover after term counter is = grind (arith, eqb, role_is)
 
--- one that does not apply
+-- a Grant that does not apply
 pub grant_failed : (master : Master) (grant : Grant) (tablet : Tablet) → tablet_at master grant.tenure.tablet ≡ tablet → granted tablet.handover grant.tenure.term grant.floor ≡ None
     → changed master ≡ grant_taken master grant
 grant_failed master grant tablet there none =

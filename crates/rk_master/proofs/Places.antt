@@ -8,7 +8,7 @@ use Rattle.std.proofs.Common.{drop-cons}
 use Rattle.std.proofs.lemmas.List.{take_more_set, drop-set-lt, map-append}
 use Rattle.rk_types.proofs.Places.{get_at, get_between, insert_at_place, insert_between}
 
--- ---- what the tablets stand for
+-- ---- what the tablets represent
 
 -- what is found of a number
 pub get_tablet : (rows : List Row) (number : ℕ) → get (tablets_of rows) number ≡ option_map tablet_of (get rows number)
@@ -34,7 +34,7 @@ insert_tablet (row ∷ rows) number lane = go (nat_cmp number row.0) (insert_tab
 
 -- ---- one tablet is changed
 
--- what the master has of the tablet of a number is what stands at its place
+-- what the master has of the tablet of a number is what is at its place
 pub tablet_there : (rows : List Row) (number i : ℕ) (d : Row) → IsInOrder rows → IsAt number rows i → tablet_in rows number ≡ tablet_of (get_or rows i d).1
 tablet_there rows number i d order at =
     ap (λ (o : Option Tablet). unwrap_or o no_tablet) (get_tablet rows number ∙ ap (option_map tablet_of) (get_at number rows i d order at))
@@ -56,7 +56,7 @@ pub changed_so : (change : Tablet → Tablet) (rows : List Row) (number i : ℕ)
     → tablets_of (set rows i ((get_or rows i d).0, lane)) ≡ insert (tablets_of rows) number (change (tablet_in rows number))
 changed_so change rows number i d lane order at changed = grind (arith, changed_there, insert, tablets_of, tablet_there)
 
--- a tablet that the master has stands among the rows
+-- a tablet that the master has is among the rows
 pub there_too : (rows : List Row) (number : ℕ) → IsSome (get (tablets_of rows) number) → IsSome (get rows number)
 there_too rows number there = grind (arith, get_tablet, tablet_of)
 
@@ -66,7 +66,7 @@ there_too rows number there = grind (arith, get_tablet, tablet_of)
 pub drop_next : (rows : List Row) (i : ℕ) (d : Row) → i < length rows → drop i rows ≡ get_or rows i d ∷ drop (i + 1) rows
 drop_next rows i d within = grind (arith, drop-cons)
 
--- a tablet stands at its own place
+-- a tablet is at its own place
 pub at_itself : (rows : List Row) (i : ℕ) (d : Row) → i < length rows → IsAt (get_or rows i d).0 rows i
 at_itself rows i d within = grind (arith, slice_get-get_or)
 

@@ -77,7 +77,7 @@ pub closable_same : (rows : List Row) (i : ℕ) (read : Row) (lane : TabletLane)
     → lane.handover ≡ read.1.handover → lane.sealed ≡ read.1.sealed → IsClosable (tablet_of lane)
 closable_same rows i read lane within is closable handover sealed = grind (arith, can_close, tablet_of, closable_at)
 
--- a tablet that is as it was stands as it stood
+-- a tablet that is as it was leaves the tablets as they were
 tablets_same : (rows : List Row) (number i : ℕ) (read : Row) (lane : TabletLane) → IsInOrder rows → IsAt number rows i → read ≡ get_or rows i read → tablet_of lane ≡ tablet_of read.1
     → tablets_of (set rows i (read.0, lane)) ≡ tablets_of rows
 tablets_same rows number i read lane order at is same =
@@ -87,14 +87,14 @@ tablets_same rows number i read lane order at is same =
     ∙ ap (λ (row : Row). tablets_of (set rows i row)) is
     ∙ ap tablets_of (set-get_or rows i read)
 
--- the tablet at a place gathered a segment, where it did
+-- the tablet at a place gathered a segment, if it awaited one
 pub gathered_at : (master : Master) (rows : List Row) (i : ℕ) (read : Row) (lane : TabletLane) (copy : CopySegment) (awaited : Bool)
     → IsInOrder rows → IsAt copy.tenure.tablet rows i → read ≡ get_or rows i read
     → OnTrue awaited (tablet_of lane ≡ with_gathered (tablet_of read.1) copy)
     → OnTrue awaited (with_rows master (set rows i (read.0, lane)) ≡ segment_gathered (with_rows master rows) copy)
 gathered_at master rows i read lane copy awaited order at is gathered = grind (arith, changed_read, insert, tablets_of, tablet_read)
 
--- and is as it was, where it did not
+-- and is as it was, if it did not
 pub ignored_at : (master : Master) (rows : List Row) (i : ℕ) (read : Row) (lane : TabletLane) (copy : CopySegment) (awaited : Bool)
     → IsInOrder rows → IsAt copy.tenure.tablet rows i → read ≡ get_or rows i read
     → OnFalse awaited (tablet_of lane ≡ tablet_of read.1)
@@ -117,11 +117,11 @@ carries role place is = grind arith
 pub carried_stays : (handover after : Handover) (term place floor : ℕ) → carried handover term place floor ≡ Some after → (after.term ≡ handover.term) × (after.range ≡ handover.range)
 carried_stays handover after term place floor is = grind (arith, eqb)
 
--- which is neither that of one that pulls
+-- which is neither that of a target that pulls
 pub not_receiving : (handover after : Handover) (term place floor : ℕ) → carried handover term place floor ≡ Some after → after.role ≡ roles.Receiving → ⊥
 not_receiving handover after term place floor is receives = grind (arith, eqb)
 
--- nor that of one that has all
+-- nor that of a target that has all
 pub not_joining : (handover after : Handover) (term place floor : ℕ) → carried handover term place floor ≡ Some after → after.role ≡ roles.Joining None → ⊥
 not_joining handover after term place floor is joins = grind (arith, eqb)
 
@@ -130,7 +130,7 @@ pub all_put : (master : Master) (put : List Entry) → with_all master put ≡ r
 all_put master [] = refl
 all_put master (entry ∷ put) = all_put (with_appended master entry) put
 
--- stand there behind those before them, and nothing else changes
+-- are there behind those before them, and nothing else changes
 pub put_log : (log : Log) (put : List Entry) → fold with_entry log put ≡ record log { entries = log.entries ++ put }
 put_log log [] = λ i. record log { entries = sym (append-nil log.entries) i }
 put_log log (entry ∷ put) = put_log (with_entry log entry) put ∙ (λ i. record log { entries = append_assoc log.entries (entry ∷ []) put i })
@@ -158,7 +158,7 @@ items_spelled (item ∷ items) all =
     All-cons IsLawfulHeld item items (All-head IsLawfulEntry (entries.Held item) (as_entries items) all)
     (items_spelled items (All-tail IsLawfulEntry (entries.Held item) (as_entries items) all))
 
--- where the log after a merge can be spelled, what is appended can
+-- if the log after a merge can be spelled, what is appended can
 appended_lawful : (master : Master) (number : ℕ) (tablet : Tablet) (merged : Merged) → is_gathering tablet.handover.role ≡ true
     → CanBeSpelled (merged_at master number tablet merged).master → All IsLawfulEntry (as_entries merged.copies ++ rebuilt_entry tablet merged ∷ [])
 appended_lawful master number tablet merged is lawful =

@@ -43,7 +43,7 @@ use Rattle.rk_master.proofs.Sides.{spelled_so}
 
 -- ---- the tablets as a map
 
--- a number is below those of the tablets where it is below those of the rows
+-- a number is below those of the tablets just if it is below those of the rows
 below_tablets : (number : ℕ) (rows : List Row) → below_all nat_cmp number (tablets_of rows) ≡ below_all nat_cmp number rows
 below_tablets number [] = refl
 below_tablets number (row ∷ rows) = ap (λ (b : Bool). is_lt (nat_cmp number row.0) && b) (below_tablets number rows)
@@ -52,7 +52,7 @@ sorted_tablets : (rows : List Row) → is_sorted nat_cmp (tablets_of rows) ≡ i
 sorted_tablets [] = refl
 sorted_tablets (row ∷ rows) = λ i. below_tablets row.0 rows i && sorted_tablets rows i
 
--- the tablets stand by rising number
+-- the tablets are by rising number
 pub order_tablets : (rows : List Row) → IsInOrder rows → IsInOrder (tablets_of rows)
 order_tablets rows order = subst T (sym (sorted_tablets rows)) order
 
@@ -65,7 +65,7 @@ found_read rows number i read order at is =
 pub put_there : (master : Master) (number : ℕ) (tablet : Tablet) → tablet_at (with_tablet master number tablet) number ≡ tablet
 put_there master number tablet = ap (λ (o : Option Tablet). unwrap_or o no_tablet) (get_same master.tablets number tablet number refl)
 
--- and where it is changed, the changed one is put in its place
+-- and if it is changed, the changed one is put in its place
 pub put_again : (master : Master) (number : ℕ) (tablet : Tablet) (change : Tablet → Tablet) → IsInOrder master.tablets
     → with_tablet (with_tablet master number tablet) number (change (tablet_at (with_tablet master number tablet) number)) ≡ with_tablet master number (change tablet)
 put_again master number tablet change order = grind (arith, with_tablet, put_there, insert_twice)
@@ -159,7 +159,7 @@ unfolding IsDistinct
 distinct_numbers a zero = tt
 distinct_numbers a (suc n) = (apart a (a + 1) n (omega arith), distinct_numbers (a + 1) n)
 
--- what a target that pulls can tell of its range and its term
+-- a target that pulls has a range and a term that can be spelled
 pub names_itself : (tablet : Tablet) → tablet.handover.role ≡ roles.Receiving → IsClosable tablet → IsLawfulRange tablet.handover.range × IsNumber w64 1 tablet.handover.term
 names_itself tablet role closable = subst (λ (r : Role). can_close r (closing_joined tablet)) role closable
 
@@ -170,11 +170,11 @@ joined_lawful range term first count numbers named is few each = grind (arith, l
 
 -- ---- the tablet at a place
 
--- the one that is read stands there
+-- the row that is read is there
 pub read_there : (rows : List Row) (i : ℕ) (read : Row) → i < length rows → read ≡ get_or rows i read → slice_get rows i ≡ Some read
 read_there rows i read within is = slice_get-get_or rows i read within ∙ ap Some (sym is)
 
--- a tablet that pulls does so still where its handover stays
+-- a tablet that pulls does so still if its handover stays
 pub pulls_still : (rows : List Row) (i : ℕ) (read : Row) (lane : TabletLane) → i < length rows → read ≡ get_or rows i read → DoesPull rows i → lane.handover ≡ read.1.handover
     → DoesPull (set rows i (read.0, lane)) i
 pulls_still rows i read lane within is pulls same = grind (arith, read_there, set_there, read.0)
@@ -230,7 +230,7 @@ awaits_pulls rows i read pulled within is yields = grind (arith, row_there, rece
 pub pulled_failed : (master : Master) (pulled : Pulled) (tablet : Tablet) → tablet_at master pulled.tenure.tablet ≡ tablet → awaits tablet pulled ≡ false → changed master ≡ pulled_taken master pulled
 pulled_failed master pulled tablet there failed = grind (arith, cond-false, tablet_at, changed)
 
--- one that is awaited is taken
+-- a batch that is awaited is taken
 pub pulled_made : (master now : Master) (pulled : Pulled) (tablet : Tablet) → tablet_at master pulled.tenure.tablet ≡ tablet → awaits tablet pulled ≡ true
     → now ≡ batch_taken master pulled.tenure.tablet pulled → changed now ≡ pulled_taken master pulled
 pulled_made master now pulled tablet there yields is = grind (arith, changed, cond-true, tablet_at)
@@ -252,11 +252,11 @@ batch_last master now sealed done number items pulled items_are is last sealed_i
 
 -- ---- a Got
 
--- one that was not asked for changes nothing
+-- a Got that was not asked for changes nothing
 pub got_failed : (master : Master) (message : Got) (tablet : Tablet) → tablet_at master message.tenure.tablet ≡ tablet → asked_for tablet message ≡ false → changed master ≡ got_taken master message
 got_failed master message tablet there failed = grind (arith, cond-false, tablet_at, changed, items_of)
 
--- one that was asked for
+-- a Got that was asked for
 pub got_resolved : (master now : Master) (message : Got) (tablet : Tablet) (items : List Held) → tablet_at master message.tenure.tablet ≡ tablet → asked_for tablet message ≡ true
     → items ≡ items_of message.entries → now ≡ hashes_resolved (replay master message.tenure.tablet 0 items) message.tenure.tablet message.hashes → changed now ≡ got_taken master message
 got_resolved master now message tablet items there yields items_are is = grind (arith, changed, cond-true, tablet_at, items_of)

@@ -9,7 +9,7 @@ use Rattle.rk_master.proofs.Applying.{behind_changed}
 use Rattle.rk_staged.proofs.Keeping.{from_place}
 use Rattle.rk_master.proofs.Places.{at_itself}
 
--- a row that was read at a place stands there by its number
+-- a row that was read at a place is there by its number
 pub at_read : (rows : List Row) (i : ℕ) (read : Row) → i < length rows → read ≡ get_or rows i read → IsAt read.0 rows i
 at_read rows i read within is = subst (λ (row : Row). IsAt row.0 rows i) (sym is) (at_itself rows i read within)
 

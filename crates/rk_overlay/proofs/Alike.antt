@@ -11,7 +11,7 @@ use Rattle.rk_overlay.proofs.Folds.{newest_from-append, newest_from-stays, newes
 use Rattle.rk_overlay.proofs.Bridges.{newest_is, newest_none, newest_found}
 use Rattle.rk_overlay.proofs.Overlays.{newest_items_same}
 
--- lists in which the same stands are plain together
+-- lists with the same items are plain together
 pub plain_alike : (xs ys : List Held) → IsPlain xs → HaveSame xs ys → IsPlain ys
 plain_alike xs ys plain same x y x_at y_at = plain x y ((same x).1 x_at) ((same y).1 y_at)
 
@@ -32,7 +32,7 @@ newest_alike xs ys plain same table key = go (newest xs table key) refl
 pub newest_items_alike : (xs ys : List Held) → IsPlain xs → HaveSame xs ys → newest_items xs ≡ newest_items ys
 newest_items_alike xs ys plain same = newest_items_same xs ys (newest_alike xs ys plain same)
 
--- what stands in two lists in a row stands in them the other way round
+-- two lists in a row have the same items the other way round
 pub same_swapped : (a b : List Held) → HaveSame (a ++ b) (b ++ a)
 same_swapped a b item = (swapped a b, swapped b a)
   where
@@ -41,7 +41,7 @@ same_swapped a b item = (swapped a b, swapped b a)
         ⊎_elim (λ (first : Contains xs item). Contains-append_right ys xs item first)
         (λ (second : Contains ys item). Contains-append_left ys xs item second) (Contains-append_cases xs ys item at)
 
--- one more time an item that stands there
+-- one more time an item that is there
 pub same_repeated : (a b : List Held) (item : Held) → Contains (a ++ b) item → HaveSame (a ++ item ∷ b) (a ++ b)
 same_repeated a b item stood other = (without, with_it)
   where

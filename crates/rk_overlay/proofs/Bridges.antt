@@ -9,7 +9,7 @@ use Rattle.rk_overlay.specs.Plain.{IsPlain}
 use Rattle.rk_overlay.proofs.Names.{is_of_parts}
 use Rattle.rk_overlay.proofs.Folds.{newest_from_is, none_in, newest_from-none}
 
--- what is found stands in the list, and none of its record there has a greater version
+-- what is found is in the list, and none of its record there has a greater version
 pub newest_is : (items : List Held) (table : ℕ) (key : List ℕ) (item : Held) → newest items table key ≡ Some item → IsNewest items table key item
 newest_is items table key item is =
     let from = newest_from_is none_found items table key item is in
@@ -19,11 +19,11 @@ newest_is items table key item is =
     record { stands = at.0; of_record = at.1; greatest = from.greatest })
     from.stands
 
--- nothing is found just where no item is of the record
+-- nothing is found just if no item is of the record
 pub newest_none : (items : List Held) (table : ℕ) (key : List ℕ) → (newest items table key ≡ None) ↔ HasNone items table key
 newest_none items table key = (none_in none_found items table key, newest_from-none none_found items table key)
 
--- where an item is of the record, one with as great a version is found
+-- if an item is of the record, an item with as great a version is found
 pub newest_some :
     (items : List Held) (table : ℕ) (key : List ℕ) (item : Held) → IsNewest items table key item
     → (other : Held) × (newest items table key ≡ Some other) × (other.version ≡ item.version)
@@ -37,7 +37,7 @@ newest_some items table key item best = go (newest items table key) refl
         let down : item.version ≤ other.version = found.greatest item best.stands best.of_record in
         (other, is, omega arith)
 
--- in a plain list, an item that none is newer than is the one that is found
+-- in a plain list, an item that none is newer than is the item that is found
 pub newest_found :
     (items : List Held) (table : ℕ) (key : List ℕ) (item : Held)
     → IsPlain items → IsNewest items table key item → newest items table key ≡ Some item

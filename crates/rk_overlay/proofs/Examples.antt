@@ -70,7 +70,7 @@ order_matters same = let bytes : ◌≡◌ {A = ℕ} 120 121 = ap first_value sa
 not_plain : IsPlain (x_at_three ∷ y_at_three ∷ []) → ⊥
 not_plain plain = order_matters (overlay_swapped (x_at_three ∷ []) (y_at_three ∷ []) plain)
 
--- the order: by version, then by table, then by key, where a shorter key comes first
+-- the order: by version, then by table, then by key, a shorter key first
 in_their_order :
     overlay
     (item_of 1 (codes "z") 7 None ∷ item_of 2 (codes "a") 5 None ∷ item_of 1 (codes "b") 5 None ∷ [])

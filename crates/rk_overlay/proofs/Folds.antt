@@ -12,7 +12,7 @@ pub newest_from-append :
 newest_from-append found [] back = refl
 newest_from-append found (item ∷ front) back = newest_from-append (with_newer found item) front back
 
--- where the same was found at a key before a list, the same is found there after it
+-- if the same was found at a key before a list, the same is found there after it
 pub newest_from-same :
     (f g : Found) (items : List Held) (table : ℕ) (key : List ℕ)
     → f table key ≡ g table key → newest_from f items table key ≡ newest_from g items table key
@@ -34,11 +34,11 @@ pub with_newer_other :
 with_newer_other found item table key other =
     cond-false (is_of table key item) (Some (newer_of (found table key) item)) (found table key) other
 
--- the newer one is the item where nothing was found, or only what is older
+-- the newer one is the item if nothing was found, or only what is older
 pub newer_item : (found : Option Held) (item : Held) → ((old : Held) → found ≡ Some old → old.version < item.version) → newer_of found item ≡ item
 newer_item found item older = grind (arith, cond-true, ltb, lt-ltb)
 
--- and what was found, where the item is not newer
+-- and what was found, if the item is not newer
 pub newer_old : (old item : Held) → item.version ≤ old.version → newer_of (Some old) item ≡ old
 newer_old old item no_newer = cond-false (ltb old.version item.version) item old (le-ltb old.version item.version no_newer)
 
@@ -53,7 +53,7 @@ newer_above_item found item = grind (arith, cond-true, ltb, lt-ltb, newer_old, c
 pub newer_above_old : (old item : Held) → old.version ≤ (newer_of (Some old) item).version
 newer_above_old old item = grind (arith, cond-true, ltb, lt-ltb, newer_old, cases_lt)
 
--- what is found after a list was found before or stands in it, and nothing of its key there has a greater version
+-- what is found after a list was found before or is in it, and nothing of its key there has a greater version
 pub record IsFoundFrom (found : Found) (items : List Held) (table : ℕ) (key : List ℕ) (item : Held) : Type 0 where
   pub stands : (found table key ≡ Some item) ⊎ (Contains items item × (is_of table key item ≡ true))
   pub above : (old : Held) → found table key ≡ Some old → old.version ≤ item.version
@@ -170,7 +170,7 @@ newest_from-none found (first ∷ items) table key none =
     newest_from-none (with_newer found first) items table key (λ other at. none other (behind_stands first items other at))
     ∙ with_newer_other found first table key (none first (first_stands first items))
 
--- what was found stays where a list has nothing newer of the record
+-- what was found stays if a list has nothing newer of the record
 pub newest_from-stays :
     (found : Found) (items : List Held) (table : ℕ) (key : List ℕ) (item : Held)
     → found table key ≡ Some item

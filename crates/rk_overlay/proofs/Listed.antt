@@ -33,7 +33,7 @@ use Rattle.rk_overlay.proofs.Trees.{name_of}
 name_total : IsTotalOrder name_cmp
 name_total = search (comparing, rules)
 
--- what stands in a list that a function gave comes from what stands in the list
+-- what is in a list that a function gave comes from what is in the list
 mapped_from : {X Y : Type 0} (f : X → Y) (xs : List X) (y : Y) → Contains (map f xs) y → (x : X) × Contains xs x × (f x ≡ y)
 mapped_from f [] y at = absurd (none_stands y at)
 mapped_from {X} {Y} f (x ∷ xs) y at =
@@ -108,7 +108,7 @@ shown_by None item is = absurd (cc (is))
 shown_by (Some lent) item is = let same : lent.now ≡ item = cc (is) in (lent, refl, same)
 
 module _ (tree : BTreeMap Name (Bor Held)) (items : List Held) (ordered : IsOrdered name_cmp tree) (is_tree : IsTreeOf tree (newest items)) where
-  -- each entry stands under the name of its item, which is the newest there
+  -- each entry is under the name of its item, which is the newest there
   entry_is : All (λ (entry : Name × Bor Held). newest items entry.0.0 entry.0.1.now ≡ Some entry.1.now) tree.entries
   entry_is k d within =
       let entry = get_or tree.entries k d in
@@ -127,7 +127,7 @@ module _ (tree : BTreeMap Name (Bor Held)) (items : List Held) (ordered : IsOrde
       All-contains (λ (entry : Name × Bor Held). newest items entry.0.0 entry.0.1.now ≡ Some entry.1.now) tree.entries from.0 entry_is from.1 in
       subst (λ (x : Bor Held). newest items x.now.table x.now.key ≡ Some x.now) from.2 (newest_own items from.0.0.0 from.0.0.1.now from.0.1.now is)
 
-  -- and each newest item stands in the tree
+  -- and each newest item is in the tree
   newest_stands : (item : Held) → newest items item.table item.key ≡ Some item → (lent : Bor Held) × Contains (values tree) lent × (lent.now ≡ item)
   newest_stands item is =
       let shown = shown_by (get name_cmp tree (name_of item)) item (is_tree (name_of item) ∙ is) in

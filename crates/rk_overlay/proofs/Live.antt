@@ -14,7 +14,7 @@ pub item_of : (found : Option Held) (version : ℕ) (value : List ℕ) → recor
     → (item : Held) × (found ≡ Some item) × (item.version ≡ version) × (item.value ≡ Some value)
 item_of found version value is = grind (arith, some_pair_parts)
 
--- plain lists in which the same stands have the same records
+-- plain lists with the same items have the same records
 pub live_alike : (xs ys : List Held) → IsPlain xs → HaveSame xs ys → (table : ℕ) (key : List ℕ) → live xs table key ≡ live ys table key
 live_alike xs ys plain same table key = ap record_of (newest_alike xs ys plain same table key)
 

@@ -4,15 +4,15 @@ use Rattle.std.specs.List.{Contains}
 use Rattle.std.proofs.lemmas.List.Elements.{Contains-append_right}
 
 module _ {X : Type 0} where
-  -- nothing stands in the empty list
+  -- nothing is in the empty list
   pub none_stands : (y : X) → Contains [] y → ⊥
   none_stands y at = let below : at.0 < 0 = at.1 in omega arith
 
-  -- the first item stands in the list
+  -- the first item is in the list
   pub first_stands : (x : X) (xs : List X) → Contains (x ∷ xs) x
   first_stands x xs = (0, omega arith, refl)
 
-  -- and so do those behind it
+  -- and so are those behind it
   pub behind_stands : (x : X) (xs : List X) (y : X) → Contains xs y → Contains (x ∷ xs) y
   behind_stands x xs y at = Contains-append_right (x ∷ []) xs y at
 

@@ -39,7 +39,7 @@ module _ {X : Type 0} (R : X → X → Ordering) (total : IsTotalOrder R) where
       go Equal is rest = order
       go Greater is rest = (after_inserted x y xs (total.antisymm x y ∙ ap ordering_reverse is) order.0, rest)
 
-  -- what stands in a list with one more item at its place is that item, or stood there before
+  -- what is in a list with one more item at its place is that item, or was there before
   pub inserted_cases : (y : X) (xs : List X) (z : X) → Contains (insert_key R xs y) z → (y ≡ z) ⊎ Contains xs z
   inserted_cases y [] z at = stands_cases y [] z at
   inserted_cases y (x ∷ xs) z at = go (R y x) (inserted_cases y xs z) at
@@ -55,7 +55,7 @@ module _ {X : Type 0} (R : X → X → Ordering) (total : IsTotalOrder R) where
           ⊎_elim (λ (its : y ≡ z). inl its) (λ (stood : Contains xs z). inr (behind_stands x xs z stood)) (rest behind))
           (stands_cases x (insert_key R xs y) z at)
 
-  -- what stood in the list still does
+  -- what was in the list still is
   pub inserted_keeps : (y : X) (xs : List X) (z : X) → Contains xs z → Contains (insert_key R xs y) z
   inserted_keeps y [] z at = absurd (none_stands z at)
   inserted_keeps y (x ∷ xs) z at = go (R y x) (inserted_keeps y xs z)
@@ -69,7 +69,7 @@ module _ {X : Type 0} (R : X → X → Ordering) (total : IsTotalOrder R) where
           (λ (behind : Contains xs z). behind_stands x (insert_key R xs y) z (rest behind))
           (stands_cases x xs z at)
 
-  -- and so does the item, where no other one has its place
+  -- and so is the item, if no other one has its place
   pub inserted_stands : (y : X) (xs : List X) → ((x : X) → Contains xs x → R y x ≡ Equal → x ≡ y) → Contains (insert_key R xs y) y
   inserted_stands y [] alone = first_stands y []
   inserted_stands y (x ∷ xs) alone =
@@ -101,7 +101,7 @@ module _ {X : Type 0} (R : X → X → Ordering) (total : IsTotalOrder R) where
   folded_keeps before [] z at = at
   folded_keeps before (y ∷ items) z at = folded_keeps (insert_key R before y) items z (inserted_keeps y before z at)
 
-  -- where items of one place are equal, each of them stands there
+  -- if items of one place are equal, each of them is there
   pub folded_stands :
       (P : X → Type 0) → ((x y : X) → P x → P y → R y x ≡ Equal → x ≡ y)
       → (before items : List X) → ((z : X) → Contains before z → P z) → ((z : X) → Contains items z → P z)
@@ -127,7 +127,7 @@ module _ {X : Type 0} (R : X → X → Ordering) (total : IsTotalOrder R) where
   comes_after : (x : X) (xs : List X) (z : X) → AllByRecursion (λ y. R x y ≡ Less) xs → Contains xs z → R x z ≡ Less
   comes_after x xs z all at = All-contains (λ y. R x y ≡ Less) xs z (All-from_recursion (λ y. R x y ≡ Less) xs all) at
 
-  -- two lists in order have one first item, where the same stands in both
+  -- two lists in order have one first item, if both have the same items
   same_first : (x y : X) (xs ys : List X) → AllByRecursion (λ z. R x z ≡ Less) xs → AllByRecursion (λ z. R y z ≡ Less) ys
       → Contains (y ∷ ys) x → Contains (x ∷ xs) y → x ≡ y
   same_first x y xs ys after_x after_y x_there y_here =
@@ -141,7 +141,7 @@ module _ {X : Type 0} (R : X → X → Ordering) (total : IsTotalOrder R) where
       (stands_cases x xs y y_here))
       (stands_cases y ys x x_there)
 
-  -- what stands behind the first item in one list stands behind it in the other
+  -- what is behind the first item in one list is behind it in the other
   same_behind : (x : X) (xs ys : List X) → AllByRecursion (λ z. R x z ≡ Less) xs
       → ((z : X) → Contains (x ∷ xs) z → Contains (x ∷ ys) z) → (z : X) → Contains xs z → Contains ys z
   same_behind x xs ys after moves z at =
@@ -150,7 +150,7 @@ module _ {X : Type 0} (R : X → X → Ordering) (total : IsTotalOrder R) where
       (λ (behind : Contains ys z). behind)
       (stands_cases x ys z (moves z (behind_stands x xs z at)))
 
-  -- two lists in order in which the same stands are one
+  -- two lists in order with the same items are one
   pub one_order : (xs ys : List X) → IsStrictlySortedBy R xs → IsStrictlySortedBy R ys → ((z : X) → Contains xs z ↔ Contains ys z) → xs ≡ ys
   unfolding IsStrictlySortedBy
   one_order [] [] order other same = refl

@@ -53,7 +53,7 @@ filtered_stands {X} {Y} h (z ∷ xs) x y at is = go (h z) refl (λ behind. filte
         (λ (behind : Contains xs x). behind_stands w (filter_map h xs) y (rest behind))
         (stands_cases z xs x at)
 
--- numbers compare as equal where they are
+-- numbers compare as equal just if they are
 pub same_number : (a b : ℕ) → is_eq (nat_cmp a b) ≡ eqb a b
 same_number a b = grind (arith, nat_tests)
 
@@ -79,7 +79,7 @@ newest_own items table key item is =
 one_newest : (items : List Held) (x y : Held) → newest items x.table x.key ≡ Some x → newest items y.table y.key ≡ Some y → x.table ≡ y.table → x.key ≡ y.key → x ≡ y
 one_newest items x y first second table key = grind arith
 
--- the newest items stand in the list of them
+-- the newest items are in the list of them
 abbrev candidates : List Held → List Held
 candidates items = filter_map (λ item. newest items item.table item.key) items
 
@@ -95,7 +95,7 @@ has_newest items x is =
     [] (candidates items) (λ y at. absurd (none_stands y at)) (candidate_own items) x
     (filtered_stands (λ item. newest items item.table item.key) items x x (newest_is items x.table x.key x is).stands is)
 
--- and no others do
+-- and no others are
 has_newest_alone : (items : List Held) (x : Held) → Contains (newest_items items) x → newest items x.table x.key ≡ Some x
 has_newest_alone items x at =
     ⊎_elim

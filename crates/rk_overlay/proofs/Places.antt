@@ -13,7 +13,7 @@ module _ (items : List Held) (table : ℕ) (key : List ℕ) (place : ℕ) (d : H
   abbrev here : Held
   here = get_or items place d
 
-  -- whatever stands for what is past the end
+  -- whatever is given for what is past the end
   one_at : (e : Held) → get_or items place e ≡ here
   one_at e = get_or_default items place e d best.within
 
@@ -48,7 +48,7 @@ module _ (items : List Held) (table : ℕ) (key : List ℕ) (place : ℕ) (d : H
       ∙ newest_from-stays (with_newer found here) (drop (place + 1) items) table key here taken none_newer_behind
       ∙ sym (slice_get-get_or items place d best.within)
 
--- the item at the place of the newest one is the newest item, and none is where there is no such place
+-- the item at the place of the newest one is the newest item, and there is none if there is no such place
 pub best_is :
     (items : List Held) (table : ℕ) (key : List ℕ) (end : ℕ) (best : Option ℕ) → end ≡ length items
     → IsBestBefore items table key end best → option_and_then (slice_get items) best ≡ newest items table key

@@ -15,11 +15,11 @@ use Rattle.rk_overlay.proofs.Names.{is_of_parts}
 use Rattle.rk_overlay.proofs.Folds.{newer_item, with_newer_here, with_newer_other}
 use Rattle.rk_overlay.proofs.Overlays.{same_number}
 
--- two names are one where their tables are, and their keys
+-- two names are one just if their tables are, and their keys
 pub same_name : (a b : Name) → is_eq (name_cmp a b) ≡ (eqb a.0 b.0 && bytes_eq a.1.now b.1.now)
 same_name a b = grind (arith, same_number, eqb, is_eq-slice_cmp)
 
--- the name of an item; where its key stands tells nothing
+-- the name of an item; the address of its key does not matter
 abbrev pub name_of : Held → Name
 name_of item = (item.table, record { ref_ptr = (0, 0); now = item.key })
 
@@ -27,7 +27,7 @@ name_of item = (item.table, record { ref_ptr = (0, 0); now = item.key })
 pub tree_of_nothing : (tree : BTreeMap Name (Bor Held)) → tree.entries ≡ [] → IsTreeOf tree none_found
 tree_of_nothing tree empty name = ap (λ (entries : List (Name × Bor Held)). option_copied (lookup (is_at (name_cmp name)) entries)) empty
 
--- what is found where an item is of the record is what is found at its own table and key
+-- what is found if an item is of the record is what is found at its own table and key
 found_there : (found : Found) (item : Held) (table : ℕ) (key : List ℕ) → is_of table key item ≡ true → found table key ≡ found item.table item.key
 found_there found item table key here =
     let its = is_of_parts table key item here in λ i. found (sym its.0 i) (sym its.1 i)

@@ -157,7 +157,7 @@ module _ {R : Type 0} (segments : R → Option Segments) (faults : R → ℕ) wh
       → Stopped segments faults old old effect_of (errors.Refused code)
   refuses old effect_of code same = grind (arith, counts_same, number_of)
 
-  -- where the cluster is full
+  -- if the cluster is full
   pub full_refuses : (old : ClusterState R) (effect_of : Cluster → List Fate → Effect) → Tells segments old is_full true
       → Stopped segments faults old old (unless_full effect_of) (errors.Refused Limit)
   full_refuses old effect_of full =

@@ -118,7 +118,7 @@ halted_runs segments faults old all was now new halted cluster is kept =
       written = grind (arith, take-append-le, sent.sent, on.pieces, sent.few, sent.written);
     })
 
--- as many commands came before one that is left
+-- as many commands came before a command that is left
 pub halted_may : {R : Type 0} (segments : R → Option Segments) (faults : R → ℕ) (old : ClusterState R) (all : List Numbered) (was now : Option (List ℕ))
     (halted : IsHalted segments faults old all was now) → length halted.on.ran ≤ length all - 1
 halted_may segments faults old all was now halted = grind (arith, length-append)
@@ -169,7 +169,7 @@ ended_comes (ends.Stopped line error) held status old new is =
 ended_comes ends.WriteFault held status old new is = subst MayComeTo (sym is.0) tt
 ended_comes ends.NoMemory held status old new is = subst MayComeTo (sym is.0) tt
 
--- ---- where the sink failed
+-- ---- if the sink failed
 
 pub ended_cause : (end : End) (held : List ℕ) (status : Status) (old new : Option (List ℕ)) (before mid now : ℕ) → HasEndCause end before mid
     → ((end ≡ ends.WriteFault → ⊥) → HasStatusCause WriteFault status mid now) → (end ≡ ends.WriteFault → now ≡ mid) → ConcludesBy end held status old new

@@ -21,7 +21,7 @@ of_no_replica : (error : ClusterError) → IsOfReplicas (error_by_cluster error)
 of_no_replica of_cluster.NoMemory is = is
 of_no_replica _ is = is
 
--- one of a settling command does where that says so
+-- an error of a settling command does only if that says so
 pub of_settling_replicas : (error : SettleError) → IsOfReplicas (error_by_settling error) → settling.IsOfReplicas error
 of_settling_replicas (of_settling.Replica rounds) is = tt
 of_settling_replicas _ is = absurd is
@@ -42,7 +42,7 @@ never_cause P result never =
 
 -- ---- ends
 
--- where a command stops a run since replicas failed too often, they have done so since its start
+-- if a command stops a run since replicas failed too often, they have done so since its start
 pub ended_often : {R : Type 0} (faults : R → ℕ) (start mid now : ClusterState R) (line : ℕ) (error : PlayError) (end : End) → end ≡ end_by line error
     → CountsGoOn faults [] start mid → HasFaults faults mid now error → EndsByReplicas end → settling.FailsInRounds faults MOST_FAULTS start now
 ended_often faults start mid now line error end same before often is = grind (arith, go_on_then)
@@ -59,7 +59,7 @@ concluded_fault : (p : Played) (held : List ℕ) (status : Status) (old new : Op
     → p.status ≡ ReplicaFault
 concluded_fault p held status old new concludes fault = grind (arith, text_of, written_apart)
 
--- nor does one that is refused
+-- nor does a run that is refused
 pub refused_fault : (line code : ℕ) (status : Status) (old new : Option (List ℕ))
     → ((cluster : Cluster) → Concludes (refused_at line code cluster) [] status old new) → status ≡ ReplicaFault → ⊥
 refused_fault line code status old new concludes fault =
@@ -70,7 +70,7 @@ stopped_fault : (line : ℕ) (error : PlayError) (cluster : Cluster) → (stoppe
 stopped_fault line (errors.Replica rounds) cluster fault = tt
 stopped_fault line _ cluster fault = absurd (cc fault)
 
--- a run comes to it only where it ended since replicas failed too often
+-- a run comes to it only if it ended since replicas failed too often
 pub ended_fault : (end : End) (held : List ℕ) (status : Status) (old new : Option (List ℕ)) → ConcludesBy end held status old new → status ≡ ReplicaFault
     → EndsByReplicas end
 ended_fault ends.Done held status old new is fault = absurd (cc (written_apart held Done status old new is fault))

@@ -38,12 +38,12 @@ module _ (before now after : Option (List ℕ)) (reader : Reader) (reads : Reads
     consumed = Consumes-trans before now after reads.fed piece reads.consumed gone;
   }
 
-  -- the script says what those bytes say, where nothing more came
+  -- the script says what those bytes say, if nothing more came
   pub reads_whole : (count : ℕ) (buffer : List ℕ) (said : Result (List Numbered) ParseError) → count ≡ 0 → Consumes now after (take count buffer) → IsAtEnd after
       → script_of reads.fed ≡ said → Says before after said
   reads_whole count buffer said none gone end is = grind (arith, append-nil, script_of)
 
--- a script is refused as a whole where more than the longest is gone of it
+-- a script is refused as a whole if more than the longest is gone of it
 pub reads_too_long : (before after : Option (List ℕ)) (fed : List ℕ) → Consumes before after fed → LONGEST_SCRIPT < length fed → length fed ≤ LONGEST_SCRIPT + PIECE
     → Says before after (Err (of_script.Refused 0 ScriptLength))
 reads_too_long before after fed consumed long few = grind (arith, length-append, lt-ltb)

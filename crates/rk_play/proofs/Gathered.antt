@@ -12,7 +12,7 @@ use Rattle.rk_cluster.proofs.Telling.{lane_tells}
 use Rattle.rk_cluster.proofs.Worlds.{same_count}
 
 module _ {R : Type 0} (segments : R → Option Segments) where
-  -- what is known where a lane is not spent is seen in its worlds, if it does not look at their backups
+  -- what is known of a lane that is not spent is seen in its worlds, if it does not look at their backups
   pub seen_running : {T : Type 0} (lane : LaneState R) (look : World → T) (told : T)
       → ((running : Running) (stored : NumberMap Segments) → look (world_with lane running stored) ≡ look (world_with lane running []))
       → IfSome lane.running (λ running. told ≡ look (world_with lane running []))
@@ -57,6 +57,6 @@ sums_grow look most worlds w = grind (arith, map_push, sum_by_push)
 within : (n : ℕ) → nat_le MOST_BYTES n ≡ nat_le MOST_BYTES (min n (2 ^ 64 - 1))
 within n = grind (arith, nat_tests)
 
--- a limit above this one does not matter where numbers are held against it
+-- a limit above this one does not matter if numbers are compared with this one
 pub below_limit : (bytes told : ℕ) → min bytes (2 ^ 64 - 1) ≡ told → nat_le MOST_BYTES bytes ≡ nat_le MOST_BYTES told
 below_limit bytes told is = within bytes ∙ ap (nat_le MOST_BYTES) is

@@ -10,7 +10,7 @@ use Rattle.rk_cluster.specs.declared.code.Code.TheVariants.{NotOwned}
 
 -- ---- lanes by their numbers, and worlds one by one
 
--- within a list it does not matter what stands past its end
+-- within a list it does not matter what is past its end
 same_within : (worlds : List World) (place : ℕ) (d e : World) → place < length worlds → slice_index_or worlds place d ≡ slice_index_or worlds place e
 same_within worlds place d e within = cc (sym (there_within worlds place d within) ∙ there_within worlds place e within)
 
@@ -53,7 +53,7 @@ held_in tablet (w ∷ worlds) =
     (list_any (λ w. is_dead_owner w (owner_in w tablet)) worlds) held (held_in tablet worlds)
     ∙ ap (λ (lives : Bool). not (lives && held)) (sym (lives_is w owner))
 
--- the code, where the tablet is there and held so or not
+-- the code, if the tablet is there and held so or not
 pub dump_held : (cluster : Cluster) (tablet : ℕ) (held : Bool) → is_tablet cluster tablet ≡ true → is_held cluster tablet ≡ held
     → dump_code cluster tablet ≡ first_code (code_where false Unknown ∷ code_where (not held) NotOwned ∷ [])
 dump_held cluster tablet held there is =

@@ -8,7 +8,7 @@ use Rattle.rk_play.specs.declared.end.End.TheVariants as ends
 use Rattle.rk_play.proofs.Concluding.{IsEnded, failed_runs, halted_may, halted_runs, ran_all, ran_alone, stopped_ended, written_runs}
 
 -- by the fates of the calls of replicas a part of a run, which has so many commands in all, has this status; unless memory was wanting, for
--- each call that failed the count of its replica rose, and the cluster in code stands for the one at the end
+-- each call that failed the count of its replica rose, and the cluster in code represents the one at the end
 pub record IsPlayedOut {R : Type 0} (segments : R → Option Segments) (faults : R → ℕ) (old now : ClusterState R) (played_by : Option ℕ → List (List Fate) → Played) (most : ℕ) (status : Status) (was new : Option (List ℕ)) : Type 0 where
   pub part : Option ℕ
   pub may : MayBePart status most part
@@ -19,7 +19,7 @@ pub record IsPlayedOut {R : Type 0} (segments : R → Option Segments) (faults :
 
 -- ---- statuses
 
--- where a text is written it is that of the whole run
+-- if a text is written it is that of the whole run
 pub written_may : (text : List ℕ) (given status : Status) (most : ℕ) (old new : Option (List ℕ)) → IsEnded given → IsWritten text given status old new → MayBePart status most None
 written_may text given status most old new ended is = grind arith
 

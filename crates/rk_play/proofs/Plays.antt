@@ -29,7 +29,7 @@ told_of commands fates = told (played_from commands fates unset)
 abbrev at : ℕ → Command → Numbered
 at line command = record { line = line; command = command }
 
--- a table is made, and told where it is; a second one of the same number is refused
+-- a table is made, and its owner is reported; a second one of the same number is refused
 one_table :
     told_of (at 1 (Table 1 1) ∷ at 3 (Where 1) ∷ at 4 (Table 1 2) ∷ []) []
     ≡ record { pieces = [] ∷ codes "tablet 1 owned 1\n" ∷ codes "refused 4 8\n" ∷ []; status = Refused }
@@ -64,7 +64,7 @@ last_master :
 unfolding digits
 last_master = refl
 
--- a put is asked, served and told, and is in the history, where each call of a replica goes well
+-- a put is asked, served and reported, and is in the history, if each call of a replica goes well
 a_put :
     told_of (at 1 (Table 1 1) ∷ at 2 (Client 1) ∷ at 3 (Call 1 1 (codes "a") (Put (codes "x"))) ∷ at 4 (Serve 1) ∷ at 5 History ∷ [])
     ([] ∷ [] ∷ [] ∷ replicate 60 Kept ∷ [])
@@ -75,7 +75,7 @@ a_put :
 unfolding digits hash_of spelled_of spelled_all spelled front_bytes body_length head_bytes held_bytes number_bytes key_bytes value_bytes
 a_put = refl
 
--- where each call of a replica of its lane fails, the put is not told, and the run ends after a hundred rounds
+-- if each call of a replica of its lane fails, the put is not reported, and the run ends after a hundred rounds
 failing_replicas :
     told_of (at 1 (Table 1 1) ∷ at 2 (Client 1) ∷ at 3 (Call 1 1 (codes "a") (Put (codes "x"))) ∷ at 4 (Serve 1) ∷ [])
     ([] ∷ [] ∷ [] ∷ replicate 3000 (Lost 4 0 0) ∷ [])

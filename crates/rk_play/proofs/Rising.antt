@@ -29,7 +29,7 @@ rose_before many (was ∷ before) (is ∷ now) back zero same rose = rose
 rose_before many (was ∷ before) (is ∷ now) back (suc place) same rose =
     let rest : length before ≡ length now = cc same in rose_before many before now back place rest rose
 
--- what stands behind as many
+-- what is behind as many
 drop_all : {X : Type 0} (front back : List X) (count : ℕ) → length front ≡ count → drop count (front ++ back) ≡ back
 drop_all front back count many =
     ap (λ (n : ℕ). drop n (front ++ back)) (sym many) ∙ drop-append_seam front back
@@ -42,7 +42,7 @@ module _ {R : Type 0} (faults : R → ℕ) (before after : List R) where
   none_fell_same same there =
       subst (λ (replicas : List R). GoOn [] (replica_counts faults before) (replica_counts faults replicas)) (sym same) (go_on_same (replica_counts faults before))
 
-  -- nor where none comes back
+  -- nor if none comes back
   pub none_fell_gone : after ≡ [] → NoneFell faults before after
   none_fell_gone gone there = absurd (there gone)
 
@@ -68,7 +68,7 @@ module _ {R : Type 0} (faults : R → ℕ) (old now : ClusterState R) (backups :
 
   module _ (eight : length old.lanes ≡ LANES)
       (dealt : (number : ℕ) (lane : LaneState R) → slice_get old.lanes number ≡ Some lane → IsEighth its.items number (replicas_of lane.backups)) where
-    -- where the counts of the cluster went on, so did those of the replicas of the run
+    -- if the counts of the cluster went on, so did those of the replicas of the run
     pub lent_go_on : (fates : List Fate) → CountsGoOn faults fates old now → GoOn fates (replica_counts faults replicas.items) (replica_counts faults back.items)
     lent_go_on fates on lane place = go (nat_lt lane LANES) refl
       where
@@ -94,7 +94,7 @@ module _ {R : Type 0} (faults : R → ℕ) (old now : ClusterState R) (backups :
             (replicas_go_on faults fates old.lanes now.lanes eight given.eight on its.items given.its dealt given.each lane place (ltb-true lane LANES is))))
         go false is = none_beyond faults fates old.lanes now.lanes eight given.eight on lane place (ltb-false lane LANES is)
 
-    -- where replicas failed in so many rounds, so did those of the run
+    -- if replicas failed in so many rounds, so did those of the run
     pub lent_in_rounds : FailsInRounds faults MOST_FAULTS old now → RoseInRounds MOST_FAULTS (replica_counts faults replicas.items) (replica_counts faults back.items)
     lent_in_rounds fails =
         record { failed = fails.failed; are_lost = fails.are_lost; often = fails.often; rose = lent_go_on fails.failed fails.rose }

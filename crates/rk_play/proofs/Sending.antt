@@ -8,7 +8,7 @@ use Rattle.std.proofs.lemmas.List.{drop-append-le}
 use Rattle.std.proofs.Math.Seq.{drop-length}
 use Rattle.rk_outside.proofs.PartLemmas.{AppendsPart-after}
 
--- what holds where a call went well, and where it failed
+-- what holds if a call went well, and if it failed
 pub where_ok : {T E : Type 0} (result : Result T E) (P : Type 0) → OnOk result P → is_err result ≡ false → P
 where_ok (Ok value) P holds fine = holds
 where_ok (Err error) P holds fine = absurd (cc fine)

@@ -27,7 +27,7 @@ use Rattle.rk_play.proofs.Leaving.{IsPlayedOut, written_may}
 
 -- ---- lists
 
--- what stands in a list stands there before others too
+-- what is at a place of a list is there before others too
 there_before : {X : Type 0} (xs ys : List X) (place : ℕ) (x : X) → slice_get xs place ≡ Some x → slice_get (xs ++ ys) place ≡ Some x
 there_before [] ys place x there = absurd (cc there)
 there_before (y ∷ xs) ys zero x there = there
@@ -42,7 +42,7 @@ there_seen see (y ∷ xs) (suc place) x there = there_seen see xs place x there
 -- ---- replicas that come back
 
 module _ {R : Type 0} (segments : R → Option Segments) where
-  -- one lane's backup has the replica that tells what it stores
+  -- one lane's backup has the replica that reports what it stores
   lane_tells : (lane : LaneState R) (w : World) (its : List R) (number place : ℕ) (stored : Segments) → IsWorld segments lane w
       → ((at : ℕ) → slice_get (replicas_of lane.backups) at ≡ slice_get its (8 * at + number)) → get w.backups (place + 1) ≡ Some stored
       → TellsAt segments its (8 * place + number) stored
@@ -55,7 +55,7 @@ module _ {R : Type 0} (segments : R → Option Segments) where
         tells = told.tells;
       }
 
-  -- replicas given back tell what the backups of the cluster store
+  -- replicas given back report what the backups of the cluster store
   pub given_tell : (state : ClusterState R) (cluster : Cluster) (others replicas : List R) → IsOf segments state cluster → AreGivenBack state.lanes others replicas → TellStored segments replicas cluster
   given_tell state cluster others replicas is given lane place stored within found =
       let its = something_within state.lanes lane (omega (arith, within, given.eight)) in
@@ -86,7 +86,7 @@ module _ {R : Type 0} (segments : R → Option Segments) where
   new_backups_at masters backups from zero = All-nil (λ (w : World). w.backups ≡ new_backups backups)
   new_backups_at masters backups from (suc count) = grind (arith, new_world, (new_backups_at masters backups (from + 1) count))
 
-  -- empty replicas tell what the backups of a new cluster store
+  -- empty replicas report what the backups of a new cluster store
   pub empty_tell : (replicas : List R) (masters backups : ℕ) → length replicas ≡ 32 → backups ≤ MOST_BACKUPS → AreEmpty segments replicas
       → TellStored segments replicas (new_cluster masters backups)
   empty_tell replicas masters backups many few empty lane place stored within found =
@@ -108,13 +108,13 @@ module _ {R : Type 0} (segments : R → Option Segments) where
 
 -- ---- runs
 
--- a cluster has as many backups as the one in code that stands for it
+-- a cluster has as many backups as the one in code that represents it
 pub backups_there : {R : Type 0} (segments : R → Option Segments) (state : ClusterState R) (cluster : Cluster) → IsOf segments state cluster
     → backup_count cluster ≡ backups_of state
 backups_there segments state cluster is = grind (arith, slice_index_or, new_world, backup_count)
 
 module _ {R : Type 0} (segments : R → Option Segments) (faults : R → ℕ) where
-  -- a cluster over empty replicas is the one that was asked for
+  -- a cluster over empty replicas is the cluster that was asked for
   pub opened : (state : ClusterState R) (masters backups count : ℕ) (setting : Setting) (replicas its : List R) → its ≡ take count replicas → masters ≡ how_many setting.masters
       → backups ≡ how_many setting.backups → (AreEmpty segments its → IsOf segments state (new_cluster masters backups)) → AreEmpty segments replicas
       → IsOf segments state (cluster_by setting)
@@ -176,12 +176,12 @@ module _ {R : Type 0} (segments : R → Option Segments) (faults : R → ℕ) wh
       → Plays segments faults script status was new before after
   script_plays script status was new before after plays = grind arith
 
-  -- one that was played out as far as memory went
+  -- a run that was played out as far as memory went
   pub out_wanting : (old now : ClusterState R) (played_by : Option ℕ → List (List Fate) → Played) (most : ℕ) (was new : Option (List ℕ)) (before after : List R)
       → IsPlayedOut segments faults old now played_by most NoMemory was new → PlaysBy segments faults played_by most NoMemory was new before after
   out_wanting old now played_by most was new before after out = grind arith
 
-  -- one that was played out, and whose replicas came back
+  -- a run that was played out, and whose replicas came back
   pub ended_plays : (old now : ClusterState R) (played_by : Option ℕ → List (List Fate) → Played) (most : ℕ) (status : Status) (was new : Option (List ℕ)) (backups : ℕ) (others before after : List R)
       → IsPlayedOut segments faults old now played_by most status was new → AreGivenBack now.lanes others after → backups_of now ≡ backups
       → drop (LANES * backups) after ≡ drop (LANES * backups) before

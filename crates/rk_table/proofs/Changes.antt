@@ -25,7 +25,7 @@ use Rattle.rk_table.proofs.Found.{all_behind, at_from_tie, at_or_behind, behind,
 at_itself : (item : Held) → is_at item.table item.key item ≡ true
 at_itself item = at_from_tie item.table item.key item (tied_itself place_total (item_place item))
 
--- none comes before a place where all are behind
+-- none comes before a place if all are behind
 before_none : (place : Place) (items : List Held) → AllByRecursion (λ other. place_cmp place (item_place other) ≡ Less) items → filter (comes_before place) items ≡ []
 before_none place [] all = refl
 before_none place (item ∷ items) all =
@@ -79,7 +79,7 @@ found_after item items table key order other = grind (arith, found_other)
 pub order_after : (item : Held) (items : List Held) → IsInScanOrder items → IsInScanOrder (with_newer item items)
 order_after item items order = grind (arith, order_with_item)
 
--- whether an item is in a range is told by its key
+-- whether an item is in a range is decided by its key
 pub in_from_at : (range : Range) (table : ℕ) (key : List ℕ) (item : Held) → is_at table key item ≡ true → is_in range item ≡ has range table (hash_of key)
 in_from_at range table key item here = grind (arith, and_parts, eqb-true, bytes_decides, has, hash_of)
 

@@ -34,7 +34,7 @@ earlier items order i j d le lt P itself before =
     (λ (no_less : j ≤ i). let e : i ≡ j = omega arith in subst (λ (k : ℕ). P (get_or items i d) (get_or items k d)) e (itself (get_or items i d)))
     (cases_lt i j)
 
--- what comes before a place stands in front
+-- what comes before a place is in front
 pub parted_by_place : (place : Place) (items : List Held) → IsInScanOrder items → IsPartitionedBy (comes_before place) items
 parted_by_place place items order i j d le lt =
     earlier items order i j d le lt (λ x y. comes_before place y ≡ true → comes_before place x ≡ true)
@@ -56,7 +56,7 @@ bucket_from a b r o e h = grind (arith, ranked)
 hash_from : (a b c d : ℕ) (r s o : Ordering) → r ≡ nat_cmp a b → s ≡ nat_cmp c d → is_lt (ordering_then r (ordering_then s o)) ≡ false → a ≡ b → d ≤ c
 hash_from a b c d r s o e f h same = grind (arith, ranked)
 
--- from the first place of a hash on, the items with the hash stand in front
+-- from the first place of a hash on, the items with the hash are in front
 pub parted_by_hash : (hash : ℕ) (items : List Held) → IsInScanOrder items
     → All (λ item. comes_before (bucket_of hash, hash, 0, []) item ≡ false) items → IsPartitionedBy (λ item. eqb (item_hash item) hash) items
 parted_by_hash hash items order from i j d le lt h =

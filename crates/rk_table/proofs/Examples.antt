@@ -30,7 +30,7 @@ pub bucket_of-q : item_bucket (item (codes "q") 1) ≡ 247
 unfolding hash_of
 bucket_of-q = refl
 
--- a limit of 100 bytes takes three items, and the token stands behind the third
+-- a limit of 100 bytes takes three items, and the token is behind the third
 pub batch_at-first : batch_at first 100 four ≡ item (codes "q") 1 ∷ item (codes "a") 2 ∷ item (codes "y") 3 ∷ []
 unfolding hash_of spelled_of
 batch_at-first = refl

@@ -27,7 +27,7 @@ use Rattle.rk_table.proofs.Walks.{filter_all_here, filter_none_here}
 then_equal : (r s : Ordering) → ordering_then r s ≡ Equal → (r ≡ Equal) × (s ≡ Equal)
 then_equal r s h = grind arith
 
--- an item is that of a key of a table exactly where the two places are the same
+-- an item is that of a key of a table exactly if the two places are the same
 pub at_from_tie : (table : ℕ) (key : List ℕ) (item : Held) → place_cmp (item_place item) (place_of table key) ≡ Equal → is_at table key item ≡ true
 at_from_tie table key item tie =
     let inner : ordering_then (nat_cmp item.table table) (slice_cmp nat_cmp item.key key) ≡ Equal =
@@ -138,7 +138,7 @@ module _ (table : ℕ) (key : List ℕ) (items : List Held) (order : IsInScanOrd
   back_order : IsInScanOrder (drop cut items)
   back_order = order_of_back (take cut items) (drop cut items) (subst IsInScanOrder (sym whole) order)
 
-  -- what is found stands behind the cut
+  -- what is found is behind the cut
   found_back : found table key items ≡ found table key (drop cut items)
   found_back = grind (arith, whole, find_past, not_at_before)
 
@@ -149,7 +149,7 @@ module _ (table : ℕ) (key : List ℕ) (items : List Held) (order : IsInScanOrd
   not_behind : (item : Held) → comes_before there item ≡ true → is_lt (place_cmp there (item_place item)) ≡ false
   not_behind item before = ap is_lt (place_total.antisymm there (item_place item) ∙ ap ordering_reverse (less_is _ before))
 
-  -- and those behind it stand behind the cut
+  -- and those behind it are behind the cut
   behind_back : behind there items ≡ behind there (drop cut items)
   behind_back =
       ap (behind there) (sym whole)
@@ -168,7 +168,7 @@ module _ (table : ℕ) (key : List ℕ) (items : List Held) (order : IsInScanOrd
     tail_order : IsInScanOrder (item ∷ drop (cut + 1) items)
     tail_order = subst IsInScanOrder tail back_order
 
-    -- where the item behind the cut is the one, it is found
+    -- if the item behind the cut is that of the key, it is found
     pub found_here : is_at table key item ≡ true → found table key items ≡ Some item
     found_here here = found_back ∙ ap (found table key) tail ∙ cond-true (is_at table key item) (Some item) (found table key (drop (cut + 1) items)) here
 
@@ -183,7 +183,7 @@ module _ (table : ℕ) (key : List ℕ) (items : List Held) (order : IsInScanOrd
     first_from : comes_before there item ≡ false
     first_from = All-head (λ x. comes_before there x ≡ false) item (drop (cut + 1) items) (subst (All (λ x. comes_before there x ≡ false)) tail at.back)
 
-    -- where it is another, none is found
+    -- if it is another, none is found
     pub none_here : is_at table key item ≡ false → found table key items ≡ None
     none_here absent =
         found_back ∙ ap (found table key) tail
@@ -202,7 +202,7 @@ module _ (table : ℕ) (key : List ℕ) (items : List Held) (order : IsInScanOrd
     nothing : drop cut items ≡ []
     nothing = drop_all cut items past
 
-    -- where the cut is at the end, none is found
+    -- if the cut is at the end, none is found
     pub none_past : found table key items ≡ None
     none_past = found_back ∙ ap (found table key) nothing
 
@@ -262,7 +262,7 @@ order_around [] item back order before behind back_order = (behind, back_order)
 order_around (x ∷ front) item back order before behind back_order =
     (before_all x item front back order.0 before.0 behind, order_around front item back order.1 before.1 behind back_order)
 
--- a test that tells which items come first
+-- a test that decides which items come first
 less_all : (p : Held → Bool) (P : Held → Type 0) → ((x : Held) → p x ≡ true → P x) → (items : List Held) → AllByRecursion P (filter p items)
 less_all p P tells items =
     recursion_from_All P (filter p items) (All-weaker (λ x. p x ≡ true) P tells (filter p items) (filter_passes p items))

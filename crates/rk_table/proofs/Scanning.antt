@@ -64,7 +64,7 @@ any_some p (item ∷ items) done h =
     ∙ any_some p items done (subst (λ (b : Bool). (b || list_any p items) ≡ true) later h))
     (cases_Bool (p item))
 
--- where an item passes, there is one
+-- if an item passes, there is one
 pub some_from_any : (p : Held → Bool) (items : List Held) → list_any p items ≡ true → 0 < length items
 some_from_any p [] h = absurd (false≢true h)
 some_from_any p (item ∷ items) h = omega arith
@@ -90,7 +90,7 @@ module _ (range : Range) (token : Token) (limit : ℕ) (items : List Held) (orde
   pub batch_is : live_in range (take batch (drop start items)) ≡ batch_at token limit live
   batch_is = given ∙ ap (batch_of limit) left_is
 
-  -- what is passed stands before it
+  -- what is passed is before it
   passed_is : live_in range (take start items) ≡ passed token live
   passed_is =
       append_cancel_right _ _ (left token live)
@@ -105,7 +105,7 @@ module _ (range : Range) (token : Token) (limit : ℕ) (items : List Held) (orde
       ∙ filter-append (is_live_in range) (take start items) (take ((start + batch) - start) (drop start items))
       ∙ (λ i. passed_is i ++ (ap (λ (k : ℕ). live_in range (take k (drop start items))) (let e : (start + batch) - start ≡ batch = omega arith in e) ∙ batch_is) i)
 
-  -- and the rest stands behind it
+  -- and the rest is behind it
   rest_is : live_in range (drop (start + batch) items) ≡ rest_at token limit live
   rest_is =
       let behind : List Held = live_in range (drop batch (drop start items)) in
@@ -114,7 +114,7 @@ module _ (range : Range) (token : Token) (limit : ℕ) (items : List Held) (orde
       ap (live_in range) (sym (drop-drop batch start items))
       ∙ sym (ap (drop (length (batch_at token limit live))) parts ∙ drop_at (batch_at token limit live) behind (length (batch_at token limit live)) refl)
 
-  -- where a live item is left, the next token is that behind the batch
+  -- if a live item is left, the next token is that behind the batch
   pub next_behind : list_any (is_live_in range) (drop (start + batch) items) ≡ true → token_behind (live_in range (take (start + batch) items)) ≡ next_token token limit live
   next_behind more = grind (arith, any_some, rest_is, done_is)
 
@@ -145,16 +145,16 @@ module _ (range : Range) (token : Token) (limit : ℕ) (items slots from_bucket 
   pub scan_batch : (batch : List Held) → batch ≡ take count from_token → live_in range batch ≡ batch_at token limit (live_in range items)
   scan_batch batch is = grind (arith, start_is, batch_is, all_left, batch_given)
 
-  -- the next token where a live item is left
+  -- the next token if a live item is left
   pub scan_behind : (rest : List Held) → rest ≡ drop count from_token → list_any (is_live_in range) rest ≡ true → (cut : ℕ) → cut ≡ start + count
       → token_behind (live_in range (take cut slots)) ≡ next_token token limit (live_in range items)
   scan_behind rest is more cut cut_is = grind (arith, next_behind, all_left, batch_given, start_is, drop-drop)
 
-  -- and where none is
+  -- and if none is
   pub scan_end : (rest : List Held) → rest ≡ drop count from_token → list_any (is_live_in range) rest ≡ false → end ≡ next_token token limit (live_in range items)
   scan_end rest is none = grind (arith, next_end, all_left, batch_given, start_is, drop-drop)
 
-  -- the slot before the rest is live where one is left
+  -- the slot before the rest is live if one is left
   pub scan_last : (rest : List Held) → rest ≡ drop count from_token → list_any (is_live_in range) rest ≡ true → (cut : ℕ) → cut ≡ start + count
       → (count < length from_token → (0 < count) × HoldsAt (λ item. is_live_in range item ≡ true) from_token (count - 1))
       → HoldsAt (λ item. is_live_in range item ≡ true) slots (cut - 1)
@@ -168,7 +168,7 @@ le_key (byte ∷ key) = refl
 with_hash_not_before : (hash : ℕ) (item : Held) → item_hash item ≡ hash → comes_before (bucket_of hash, hash, 0, []) item ≡ false
 with_hash_not_before hash item same = grind (arith, le_key, ranked)
 
--- the live items with a hash stand between the two cuts
+-- the live items with a hash are between the two cuts
 pub at_hash_is : (range : Range) (hash : ℕ) (items : List Held) (start run : ℕ) → IsCut (comes_before (bucket_of hash, hash, 0, [])) items start
     → IsCut (λ item. eqb (item_hash item) hash) (drop start items) run
     → live_in range (take run (drop start items)) ≡ at_hash hash (live_in range items)

@@ -66,7 +66,7 @@ batch_and_rest limit (item ∷ items) = grind (arith, (batch_and_rest (limit - s
 pub left_in_two : (token : Token) (limit : ℕ) (items : List Held) → batch_at token limit items ++ rest_at token limit items ≡ left token items
 left_in_two token limit items = batch_and_rest limit (left token items)
 
--- a batch has an item where one is left
+-- a batch has an item if one is left
 pub batch_gives : (token : Token) (limit : ℕ) (items : List Held) → 0 < length (left token items) → 0 < length (batch_at token limit items)
 batch_gives token limit items some = go (left token items) some
   where
@@ -107,16 +107,16 @@ pub left_goes_on : (token : Token) (limit : ℕ) (items : List Held) → Rises i
     → left token items ≡ batch_at token limit items ++ left (next_token token limit items) items
 left_goes_on token limit items rises = grind (arith, left_in_two, left_next)
 
--- where nothing is left, the next token is the end
+-- if nothing is left, the next token is the end
 pub token_before_none : (rest done : List Held) → rest ≡ [] → token_before rest done ≡ end
 token_before_none rest done none = ap (λ (l : List Held). token_before l done) none
 
--- the next token is the end exactly where nothing is left at it
+-- the next token is the end exactly if nothing is left at it
 pub ends_where_none_left : (token : Token) (limit : ℕ) (items : List Held) → Rises item_bucket items
     → (next_token token limit items ≡ end) ↔ (left (next_token token limit items) items ≡ [])
 ends_where_none_left token limit items rises = grind (arith, token_before_none, left_next, filter_none, bucket_below_end, ne_eqb, le-ltb)
 
--- so many turns hand out what is left, where that is no more items than turns
+-- so many turns hand out what is left, if that is no more items than turns
 pub scanned_left : (limit turns : ℕ) (token : Token) (items : List Held) → Rises item_bucket items
     → length (left token items) ≤ turns → scanned limit turns token items ≡ left token items
 scanned_left limit zero token items rises few = sym (nil_from_length (left token items) (omega arith))

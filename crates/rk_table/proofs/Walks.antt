@@ -16,7 +16,7 @@ use Rattle.rk_table.proofs.Ordered.{AllFrom, Rises, filter_kept, filter_left_out
 use Rattle.rk_table.proofs.InOrder.{rises_in_order}
 use Rattle.rk_table.proofs.Cuts.{buckets_rise}
 
--- a test that no item here passes, and one that each does
+-- a test that no item here passes, and a test that each does
 pub filter_none_here : {X : Type 0} (p : X → Bool) (xs : List X) → All (λ x. p x ≡ false) xs → filter p xs ≡ []
 filter_none_here p [] all = refl
 filter_none_here p (x ∷ xs) all =
@@ -34,7 +34,7 @@ all_from_bound b [] all = tt
 all_from_bound b (item ∷ items) all =
     (All-head (λ item. b ≤ item_bucket item) item items all, all_from_bound b items (All-tail (λ item. b ≤ item_bucket item) item items all))
 
--- of items that begin in a token's bucket, what is left where a first part of that bucket is passed over: the token
+-- of items that begin in a token's bucket, what is left if a first part of that bucket is passed over: the token
 -- skips its live items, or the bucket is at its end
 pub left_past : (range : Range) (token : Token) (front back : List Held) → IsInScanOrder (front ++ back)
     → All (λ item. item_bucket item ≡ token.bucket) front → All (λ item. token.bucket ≤ item_bucket item) back

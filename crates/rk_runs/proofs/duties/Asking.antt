@@ -16,7 +16,7 @@ use Rattle.rk_runs.specs.duties.Worn.{IsWornFor}
 
 -- ---- a call is tested to be itself
 
--- the last call is one that is this
+-- the last call is this call
 last_same : (call : Call) (session : Session) (last : LastCall) → IsOutstanding session last → session.outstanding ≡ Some call
     → is_last call session.seen (Some last) ≡ true
 last_same call session last is out = grind (arith, and_from, is_call, eq-eqb, bytes_eq, bytes_eq-Decides)

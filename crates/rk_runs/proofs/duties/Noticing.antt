@@ -20,7 +20,7 @@ is_in list master = list_any (λ other. other == master) list
 in_right : (xs ys : List ℕ) (master : ℕ) → is_in ys master ≡ true → is_in (xs ++ ys) master ≡ true
 in_right xs ys master inside = list_any-append (λ (other : ℕ). other == master) xs ys ∙ or_right (is_in xs master) (is_in ys master) inside
 
--- so it stands there
+-- so it is in the list
 in_there : (list : List ℕ) (master : ℕ) → is_in list master ≡ true → Contains list master
 in_there list master inside =
     let found = Any-from_list_any (λ (other : ℕ). other == master) list inside in

@@ -79,7 +79,7 @@ module _ (w : World) (free : IsFree w) where
   accepted_free number session = accept_keeps HasFreeRows w free number session
 
   module _ (gone : All (λ dead. has_crashed w dead ≡ true) w.coordinator.noticed) where
-    -- a master that lives was not noticed, where each one that was noticed has crashed
+    -- a master that lives was not noticed, if each master that was noticed has crashed
     lives_heard : (master : ℕ) → has_crashed w master ≡ false → is_noticed w.coordinator master ≡ false
     lives_heard master lives =
         list_any_none (λ (noticed : ℕ). noticed == master) w.coordinator.noticed
@@ -110,6 +110,6 @@ module _ (w : World) (free : IsFree w) where
         go None none = event_keeps HasFreeRows w kept event called (comes event none)
         go (Some error) none = free
 
--- a lane where nothing happened has no rows
+-- a lane in which nothing happened has no rows
 pub new_free : (lane masters backups : ℕ) → IsFree (new_world lane masters backups)
 new_free lane masters backups = All-nil _

@@ -22,11 +22,11 @@ pub record ChangesAt (before after : ℕ → Ledger) (lane : ℕ) (new : Ledger)
 pub at_lane : (before after : ℕ → Ledger) (lane : ℕ) (new : Ledger) → ChangesAt before after lane new → (P : Ledger → Type 0) (q : ℕ) → (q ≡ lane → P new) → ((q ≡ lane → ⊥) → P (before q)) → P (after q)
 at_lane before after lane new changes P q here other = grind (arith, cases_eq)
 
--- what was known of a last call is known where the records that are accepted are so still
+-- what was known of a last call is known if the records that were accepted are so still
 known_on : (before after : List Placed) (session : Session) (last : Option LastCall) → ((call : Call) → IsAccepted before call → IsAccepted after call) → IsLastKnown before session last → IsLastKnown after session last
 known_on before after session last on known = grind arith
 
--- each accepted record of a journal stands at its place in another one
+-- each accepted record of a journal is at its place in another journal
 abbrev StaysIn : List Placed → List Placed → Type 0
 StaysIn journal now = (place : ℕ) (placed : Placed) → slice_get journal place ≡ Some placed → placed.accepted ≡ true → slice_get now place ≡ Some placed
 
@@ -41,18 +41,18 @@ accepted_on journal now stays call accepted =
     }
 
 module _ (before after : ℕ → Ledger) (lane : ℕ) (new : Ledger) (changes : ChangesAt before after lane new) (stays : StaysIn (before lane).journal new.journal) where
-  -- so what receipts told is recorded still
+  -- so what receipts record is there still
   recorded_on : (receipts : List Receipt) → All (IsRecordedIn before) receipts → All (IsRecordedIn after) receipts
   recorded_on = grind (arith, at_lane)
 
   told_on : (client : ℕ) (receipts : List Receipt) → AreTold receipts client lane new.journal → ((q : ℕ) → AreTold receipts client q (before q).journal) → (q : ℕ) → AreTold receipts client q (after q).journal
   told_on client receipts here told q = grind (arith, at_lane)
 
-  -- a session that stays as it was agrees still, where its receipts tell of the new journal, and its last call there is known
+  -- a session that is as it was agrees still, if its receipts record what the new journal accepted of it, and its last call there is known
   agrees_on : (client : ℕ) (session : Session) → Agrees before client session → AreTold session.receipts client lane new.journal → IsLastKnown new.journal session (asked_by new client) → Agrees after client session
   agrees_on client session agrees told asked = grind (arith, recorded_on, told_on, at_lane, asked_by)
 
-  -- as it is where the client asked what it had asked
+  -- as it is if the client's last call is what it was
   same_agrees : (client : ℕ) (session : Session) → Agrees before client session → asked_by new client ≡ asked_by (before lane) client → AreTold session.receipts client lane new.journal → Agrees after client session
   same_agrees client session agrees same told = grind (arith, agrees_on, known_on, asked_by, accepted_on)
 
@@ -97,13 +97,13 @@ same_accepted placed new same accepted i = record {
   accepted = (same.kept accepted ∙ sym accepted) i;
 }
 
--- an element that is put at a place stands there
+-- an element that is put at a place is there
 set_here : {X : Type 0} (xs : List X) (place : ℕ) (old new : X) → slice_get xs place ≡ Some old → slice_get (slice_set xs place new) place ≡ Some new
 set_here [] place old new at = absurd (none-some old at)
 set_here (x ∷ xs) zero old new at = refl
 set_here (x ∷ xs) (suc place) old new at = set_here xs place old new at
 
--- a reply tells a client that its outstanding call, which it asked last in a lane, was carried out: the record stands at this place,
+-- a reply reports that the outstanding call of a client, asked last in a lane, was carried out: the record is at this place,
 -- with a stamp above all that the client has seen
 pub record IsAnswer (ledgers : ℕ → Ledger) (lane client : ℕ) (session : Session) (place : ℕ) (placed : Placed) (call : Call) (reply : Reply) (outcome : Outcome) : Type 0 where
   pub outstanding : session.outstanding ≡ Some call
@@ -126,7 +126,7 @@ module _ (before after : ℕ → Ledger) (lane : ℕ) (new : Ledger) (changes : 
       let its = record_after (before lane).journal accepted_now i old (accepted_same (before lane).journal place placed at) here in
       ap (λ (list : List Placed). slice_get list i) journal_is ∙ its.1 ∙ ap Some (same_accepted old its.0 its.2 accepted)
 
-  -- the accepted records of a client are told by these receipts, where the one that is accepted now is, if it is the client's
+  -- these receipts record the accepted records of a client, if they record the one that is accepted now in case it is the client's
   told_here : (client : ℕ) (receipts : List Receipt) → (placed.call.client ≡ client → IsToldBy receipts lane (as_accepted placed)) → AreTold receipts client lane (before lane).journal → AreTold receipts client lane new.journal
   told_here client receipts tells told =
       rw journal_is
@@ -158,7 +158,7 @@ module _ (before after : ℕ → Ledger) (lane : ℕ) (new : Ledger) (changes : 
     next : session.last ≡ length session.receipts + 1
     next = agrees.last ∙ ap (λ (o : Option Call). length session.receipts + waiting o) taken.outstanding
 
-    -- the accepted record is the one that the receipt tells
+    -- the accepted record is the one that the receipt records
     record_is : as_accepted placed ≡ record { call = call; outcome = outcome; stamp = reply.stamp; accepted = true }
     record_is = sym (λ i. record { call = taken.call_is i; outcome = taken.outcome_is i; stamp = taken.stamp_is i; accepted = true })
 

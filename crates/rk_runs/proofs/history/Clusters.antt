@@ -24,7 +24,7 @@ pub record IsGoodLane (Steady : World → Type 0) (masters lane : ℕ) (w : Worl
   pub base_is : w.base ≡ no_base
   pub masters_are : w.coordinator.masters ≡ masters
 
--- a session that may act, where its client's number is lawful, as it is where a call is outstanding; and that sent its last request, if
+-- a session that may act, if its client's number is lawful, as it is if a call is outstanding; and that sent its last request, if
 -- there was one, in a lane that is there
 pub record IsGoodSession (masters client : ℕ) (session : Session) : Type 0 where
   pub acts : IsNumber w32 1 client → MayAct masters session

@@ -7,7 +7,7 @@ pub use Rattle.rk_inv_base.proofs.views.Among.{mapped_from as unmapped}
 use Rattle.rk_inv_lanes.proofs.Below.{mapped}
 
 module _ (journals : List (List Placed)) (history : List Line) (from : IsMergedFrom journals history) where
-  -- a line is of a record that stands in the journal of its lane, and in the history
+  -- a line is of a record that is in the journal of its lane, and that the history has
   pub line_stands : (line : Line) → Contains history line → Contains (journal_of journals line.lane) line.placed × (is_kept line.placed ≡ true)
   line_stands line stands =
       let here : Line → Bool = λ (l : Line). l.lane == line.lane in
@@ -16,7 +16,7 @@ module _ (journals : List (List Placed)) (history : List Line) (from : IsMergedF
       (subst (λ (records : List Placed). Contains records line.placed) (from.complete line.lane)
       (mapped (λ (l : Line). l.placed) (filter here history) line kept))
 
-  -- a record that stands in a journal, and is one that the history has, has its line
+  -- a record that is in a journal, and that the history has, has its line
   pub stands_line : (lane : ℕ) (placed : Placed) → Contains (journal_of journals lane) placed → is_kept placed ≡ true → Contains history (record { lane = lane; placed = placed })
   stands_line lane placed stands kept =
       let here : Line → Bool = λ (l : Line). l.lane == lane in

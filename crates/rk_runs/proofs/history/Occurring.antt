@@ -103,7 +103,7 @@ module _ (Steady : World → Type 0) (masters : ℕ) (events_keep : EventsKeep S
     changes : (after : World) (session : Session) → ChangesAt (ledgers_of cluster) (ledgers_of (visited_cluster after session)) lane after.ledger
     changes after session = changes_there cluster lane after within (visited_cluster after session).sessions
 
-    -- one that leaves all as it was
+    -- a visit that leaves all as it was
     nothing : IsGood Steady masters (visited_cluster v mine)
     nothing =
         visited v mine stood
@@ -114,7 +114,7 @@ module _ (Steady : World → Type 0) (masters : ℕ) (events_keep : EventsKeep S
         })
         (good.sessions client)
 
-    -- the client's number is lawful where it has a call outstanding
+    -- the client's number is lawful if it has a call outstanding
     acts : (call : Call) → mine.outstanding ≡ Some call → MayAct masters mine
     acts call out =
         (good.sessions client).acts
@@ -196,7 +196,7 @@ module _ (Steady : World → Type 0) (masters : ℕ) (events_keep : EventsKeep S
 
   -- ---- all that may occur
 
-  -- backups tell what they store
+  -- backups report what they store
   abbrev pub Tells : Type 0
   Tells = (w : World) → Steady w → AllTell w
 

@@ -124,7 +124,7 @@ module _ (journals : List (List Placed)) (ledgers : ℕ → Ledger) (sessions : 
       (ledgers line.lane).journal line.placed (lawful line.lane).asked (stands line has))
       ((agree line.placed.call.client).asked line.lane)
 
-  -- ---- no mutation stands twice
+  -- ---- no mutation is recorded twice
 
   -- the receipt of an accepted line
   receipt_of : (line : Line) → Contains history line → line.placed.accepted ≡ true → IsToldBy (sessions line.placed.call.client).receipts line.lane line.placed

@@ -10,7 +10,7 @@ use Rattle.rk_inv_base.proofs.rows.Apart.{contains_cases}
 use Rattle.rk_runs.specs.history.Agreement.{AreRisingAbove}
 use Rattle.rk_runs.proofs.history.Answers.{AreInOrder, comes_before}
 
--- what stands in a list stands at a place of it
+-- what is in a list is at a place of it
 pub place_of : {X : Type 0} (xs : List X) (x : X) → Contains xs x → (k : ℕ) × (slice_get xs k ≡ Some x)
 place_of xs x stands = (stands.0, slice_get-get_or xs stands.0 x stands.1 ∙ ap Some stands.2)
 
@@ -73,7 +73,7 @@ rising_push stamp (first ∷ receipts) receipt rising above below = (
       (All-tail (λ (other : Receipt). other.stamp < receipt.stamp) first receipts below),
 )
 
--- so the answers that receipts tell are in order
+-- so the answers that receipts record are in order
 later_stamp : (a b : Answered) → a.stamp < b.stamp → comes_before a b ≡ true
 later_stamp a b above = grind (arith, ltb, eqb, nat_tests, a.stamp, b.stamp, a.lane, b.lane)
 
@@ -100,11 +100,11 @@ lines_in_order test (line ∷ lines) ordered = go (test line) (lines_in_order te
     go true rest = (later, rest)
     go false rest = rest
 
--- what stands at a place of a list stands in it
+-- what is at a place of a list is in it
 pub stands_at : {X : Type 0} (xs : List X) (k : ℕ) (x : X) → slice_get xs k ≡ Some x → Contains xs x
 stands_at xs k x at = (k, slice_get_within xs k x at, get_or_from_slice_get xs k x x at)
 
--- a line stands at one place of a history that is in order
+-- a line is at one place of a history that is in order
 first_once : (first : Line) (lines : List Line) → All (λ l. is_before first l ≡ true) lines → (x : Line) (j : ℕ) → Some first ≡ Some x → slice_get lines j ≡ Some x → ⊥
 first_once first lines before x j is at = grind (arith, stands_at, before-asymmetric)
 

@@ -113,7 +113,7 @@ module _ (masters backups : ℕ) (few : masters ≤ MOST_MASTERS) (backed : 1 �
       (lane_at (cluster_run start list) lane).coordinator.rows)
       good.base_is good.sound.truth.true
 
-  -- where nothing is left to do the stored logs alone give the map
+  -- if nothing is left to do the stored logs alone give the map
   pub all_stand : (list : List Occurrence) → IsRun start list → IsQuietCluster (cluster_run start list) → (lane : ℕ) → lane < LANES → Stands (lane_at (cluster_run start list) lane)
   all_stand list run quiet lane inside =
       let good = lane_good list run lane inside in
@@ -121,7 +121,7 @@ module _ (masters backups : ℕ) (few : masters ≤ MOST_MASTERS) (backed : 1 �
       good.room (own_where_all_tell (lane_at (cluster_run start list) lane) good.steady.1)
       (quiet lane (new_world lane 0 0) (within list lane inside))
 
-  -- what a receipt tells stands there, whatever comes after
+  -- what a receipt records is in the journal, whatever comes after
   pub acknowledged : (before after : List Occurrence) (client : ℕ) → IsRun start before → All (IsKeptIn (cluster_run start (before ++ after))) (session_at (cluster_run start before) client).receipts
   acknowledged before after client run =
       All-weaker (IsKeptIn (cluster_run start before)) (IsKeptIn (cluster_run start (before ++ after)))

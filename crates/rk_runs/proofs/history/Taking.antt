@@ -12,7 +12,7 @@ use Rattle.rk_inv_lanes.proofs.Below.{for_client}
 -- something of what a message says and of what a session with an outstanding call makes of it
 pub record IsTaken (T : Body → Accepted → Type 0) (journal : List Placed) (session : Session) (call : Call) : Type 0 where
   pub ignores : (body : Body) → T body (ignoring session)
-  -- the call ends, and a record of it stands in the journal
+  -- the call ends, and a record of it is in the journal
   pub ends : (reply : Reply) (outcome : Outcome) → reply.seq ≡ call.seq → IsRecordAt journal session.client reply outcome
       → T (Body.Reply reply) (record { session = done session call reply outcome; taken = Taken.Done })
   -- another master, or another time

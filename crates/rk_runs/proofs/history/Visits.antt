@@ -177,7 +177,7 @@ module _ (before after : ℕ → Ledger) (lane client : ℕ) (session : Session)
           (λ is. apart (sym is ∙ record_at.client_is ∙ agrees.own)) fits;
     }
 
-  -- by what was told
+  -- by what the message says
   takes : IsTaken (λ body accepted. ChangesAt before after lane (ledger_taken w.ledger body accepted.taken)
       → AgreeAfter before after client accepted.session)
       w.ledger.journal session call

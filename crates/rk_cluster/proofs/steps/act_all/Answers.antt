@@ -5,7 +5,7 @@ use Rattle.rk_cluster.proofs.Heard.{worn_weaker}
 use Rattle.rk_cluster.proofs.Faults.{lanes_then}
 use Rattle.rk_cluster.proofs.steps.act_all.Goals as goal
 
--- what stands past the end of the deeds
+-- what is read past the end of the deeds
 abbrev no_deed : Deed
 no_deed = record { lane = 0; event = events.AddTablet 0 (record { table = 0; first = 0; last = 0 }) 0 }
 

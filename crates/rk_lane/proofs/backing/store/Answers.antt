@@ -20,7 +20,7 @@ returns-in_err-answer-clause-err g c =
     c.in_err-answer.field-0.0 c.in_err-answer.ensures.segments (λ (failed : c.in_err-answer.field-0.0 ≡ losses.Failed). c.in_err-answer.ensures.asked (ap Err failed))
     (g.met.R.Replica.agrees c.args.backup.now.replica c.args.sender c.args.append.now.segment) c.in_err-answer.ensures.cause)
 
--- it tells how much is stored
+-- it reports how much is stored
 pub returns-clause-ok : goal.returns-clause-ok
 returns-clause-ok g c =
     λ log.

@@ -8,7 +8,7 @@ use Rattle.rk_master.proofs.Handovers.{tablet_read}
 use Rattle.rk_master.proofs.Receiving.{closable_read, got_failed, got_made, got_resolved, not_resolved, same_tablets}
 use Rattle.rk_master.proofs.pulled.resolve.Goals as goal
 
--- whether it was asked for, where the tablet pulls
+-- whether it was asked for, if the tablet pulls
 asked : (tablet : Tablet) (term : ℕ) (hashes : List ℕ) (b : Bool) → is_receiving_at tablet term ≡ true → is_batch tablet.pulling.hashes.outstanding hashes ≡ b
     → (is_receiving_at tablet term && is_batch tablet.pulling.hashes.outstanding hashes) ≡ b
 asked tablet term hashes b receives is = ap (λ (x : Bool). x && is_batch tablet.pulling.hashes.outstanding hashes) receives ∙ is

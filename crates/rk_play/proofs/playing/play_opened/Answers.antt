@@ -36,7 +36,7 @@ returns-in-NoMemory-clause-plays g c =
     (halted_out segments g.R.Replica.faults old c.run_all-end.new.cluster c.args.commands (g.K.Sink.written c.args.sink.now) (cluster_by setting) is
     (g.K.Sink.written c.run_all-end.new.sink) (g.K.Sink.written c.run_all-end.new.sink) c.in-NoMemory.ensures.ends (Keeps-refl (g.K.Sink.written c.run_all-end.new.sink))))
 
--- where memory was wanting with the cluster there, or before it was, the replicas went with it
+-- if memory was wanting with the cluster there, or before it was, the replicas went with it
 pub returns-in_default-with_replicas-clause-counts : goal.returns-in_default-with_replicas-clause-counts
 returns-in_default-with_replicas-clause-counts g c =
     none_fell_gone g.R.Replica.faults c.args.replicas.now.items c.lend.new.replicas.items c.in-Ok.ensures.ok.room.room_is.nothing

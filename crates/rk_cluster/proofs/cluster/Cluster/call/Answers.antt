@@ -6,7 +6,7 @@ use Rattle.rk_cluster.proofs.Faults.{counts_same, lanes_same}
 use Rattle.rk_cluster.proofs.Shortage.{nothing_done, same_short}
 use Rattle.rk_cluster.proofs.cluster.Cluster.call.Goals as goal
 
--- what was told of tables and calls
+-- what was found of tables and calls
 has_told : (rows list : List Row) (table : ℕ) (told : Bool) → list ≡ rows → told ≡ has_table list table → has_table rows table ≡ told
 has_told rows list table told same is = ap (λ (all : List Row). has_table all table) (sym same) ∙ sym is
 

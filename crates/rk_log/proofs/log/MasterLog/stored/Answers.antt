@@ -17,7 +17,7 @@ use Rattle.rk_log.proofs.log.MasterLog.stored.Goals.{After-bytes, After-raise, A
 within : (c : After-bytes) → c.args.backup - 1 < length c.self.inside.cursors.items
 within c = backup_at (parts_of c.self.inside) c.args.self.now c.args.backup c.self.view_is c.requires
 
--- the main segments once it told the length
+-- the main segments once it reported the length
 main_raised : (c : After-raise)
     → Raised FIRST_SEGMENT c.args.segment (c.args.backup - 1) c.args.length c.self.inside.main.items (with_items c.self.inside.main c.raise.new.segments).items
 main_raised c =
@@ -73,13 +73,13 @@ held_from-self-inside-requires-clause-from c =
       ap length c.as_slice-3.ensures.value,
     )
 
--- it told no more than there is
+-- it reported no more than there is
 enough : (c : After-bytes) → c.args.length ≤ length c.bytes.result.now → c.args.length ≤ length (bytes_among c.args.segment c.self.inside.main.items c.self.inside.sides.items)
 enough c le =
     told_enough (parts_of c.self.inside)
     c.args.self.now c.args.segment c.args.length c.self.invariant.consistent c.self.view_is (omega (arith, le, ap length c.bytes.ensures.bytes))
 
--- the parts once the length is told
+-- the parts once the length is reported
 parts_now : (c : After-held_from-self-inside) → bytes_in (with_items c.self.inside.main c.raise.new.segments).items ≡ bytes_in c.self.inside.main.items
     → told_in (parts_of c.self.inside) (with_items c.self.inside.main c.raise.new.segments).items (with_items c.self.inside.sides c.raise-2.new.segments).items (c.args.backup - 1) c.advanced.result
     ≡ record {

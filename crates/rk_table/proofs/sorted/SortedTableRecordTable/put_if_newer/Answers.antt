@@ -7,7 +7,7 @@ use Rattle.rk_table.specs.Items.{with_item}
 use Rattle.rk_table.proofs.Found.{order_with_item}
 use Rattle.rk_table.proofs.sorted.SortedTableRecordTable.put_if_newer.Goals as goal
 
--- the item stands in the place of the older one
+-- the item is in the place of the older one
 pub invariant_of-self : goal.invariant_of-self
 invariant_of-self c =
     let slots : List Held = c.as_slice.result.now in
@@ -18,7 +18,7 @@ invariant_of-self c =
           (order_with_item c.args.item slots (subst IsInScanOrder (sym c.as_slice.ensures.value) c.args.self.now.in_order));
     }
 
--- the item stands where none with its key was
+-- the item is at a place at which none with its key was
 pub invariant_of-self-in-Err : goal.invariant_of-self-in-Err
 invariant_of-self-in-Err c =
     let slots : List Held = c.as_slice.result.now in
