@@ -13,11 +13,11 @@ abbrev pub is_accepted : ℕ → List ℕ → List ℕ → Bool
 is_accepted at bytes stored =
     nat_le at (length stored) && bytes_eq (take (overlap at bytes stored) (drop at stored)) (take (overlap at bytes stored) bytes)
 
--- the bytes that are added: what goes past the stored ones; none where they are not accepted
+-- the bytes that are added: what goes past the stored ones; none if they are not accepted
 abbrev pub added : ℕ → List ℕ → List ℕ → List ℕ
 added at bytes stored = if is_accepted at bytes stored then drop (length stored - at) bytes else []
 
--- what becomes of told segments, by the answer: all that is to be added, some first part of it, or nothing
+-- what becomes of reported segments, by the answer: all that is to be added, some first part of it, or nothing
 abbrev pub Accepts : {T : Type 0} → Result T Lost → ℕ → ℕ → ℕ → List ℕ → Segments → Segments → Type 0
 Accepts (Ok _) master segment at bytes old new =
     ChangesAt master segment (with_part (old master segment) (added at bytes (bytes_of (old master segment)))) old new
@@ -29,7 +29,7 @@ pub record Reaches (master segment end stored : ℕ) (old new : Lengths) : Type 
   pub reached : (stored ≡ old master segment) ⊎ ((stored ≡ end) × (old master segment < end))
   pub change : ChangesAt master segment stored old new
 
--- what becomes of the lengths, also of segments that are not told, where bytes came that end there: one segment has as
+-- what becomes of the lengths, also of segments that are not reported, when bytes came that end there: one segment has as
 -- many bytes as the answer says, and after a failure it has grown towards that end at most
 abbrev pub Grows : Result ℕ Lost → ℕ → ℕ → ℕ → Lengths → Lengths → Type 0
 Grows (Ok stored) master segment end old new = Reaches master segment end stored old new

@@ -20,7 +20,7 @@ fn agree(stored: &[u8], at: usize, bytes: &[u8]) -> bool
 }
 
 /// Whether the bytes begin where bytes of the segment are stored or at their end, and agree with them as far as both go.
-/// The segment is read where there is something to compare.
+/// The segment is read if there is something to compare.
 pub(crate) fn agrees_with_stored<R: Replica>(
     replica: &mut R,
     alloc: Global,

@@ -34,10 +34,10 @@ impl<R: Replica> BackupLane<R> {
     }
 
     /// Takes bytes that begin at the byte `at` of a segment, and answers how many bytes the segment has then. They are
-    /// accepted where `at` is no more than that was before and the bytes agree with the stored ones as far as both go;
+    /// accepted if `at` is no more than that was before and the bytes agree with the stored ones as far as both go;
     /// what goes past the stored ones is added at their end, and elsewhere nothing changes. After `Failed` some first
     /// part of what is to be added was added, and the count of faults rose; after `NoMemory` nothing was. The replica is
-    /// asked for more than a length only where there are bytes that begin within the stored ones or at their end.
+    /// asked for more than a length only if there are bytes that begin within the stored ones or at their end.
     pub fn on_append(
         &mut self,
         alloc: Global,
@@ -79,7 +79,7 @@ impl<R: Replica> BackupLane<R> {
         Ok(stored + more.len() as u32)
     }
 
-    /// The bytes of a segment; None where it was never written. No segment changes. `Failed` comes only where the
+    /// The bytes of a segment; None if it was never written. No segment changes. `Failed` comes only if the
     /// count of faults rose.
     pub fn on_read(
         &mut self,

@@ -18,7 +18,7 @@ IsBacked backed (Ok message) = backed ≡ record { sends = message ∷ []; lost 
 IsBacked backed (Err failed) = backed ≡ failing
 IsBacked backed (Err NoMemory) = ⊤
 
--- what a read came to, where the replica tells its segments: it gave what is stored, or failed and nothing was stored
+-- what a read came to, if the replica reports its segments: it gave what is stored, or failed and nothing was stored
 abbrev pub IsReadOf : Segments → ReadSegment → Called → Type 0
 IsReadOf segments read (Appended length) = ⊥
 IsReadOf segments read (Gave bytes) = bytes ≡ segments read.master read.segment

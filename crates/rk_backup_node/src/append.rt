@@ -12,9 +12,9 @@ use rk_outside::{Lost, Replica};
 use rk_types::{Node, SEGMENT_BYTES};
 use std::alloc::Global;
 
-/// A backup takes a master's Append, and tells how many bytes of the segment it stores then. The bytes end within a segment.
-/// After `Failed` some first part of what was new may be stored, and the message is lost; it comes only where bytes come that
-/// begin within the stored ones or at their end. After `NoMemory` nothing has changed. Stored bytes are read only where some
+/// A backup takes a master's Append, and reports how many bytes of the segment it stores then. The bytes end within a segment.
+/// After `Failed` some first part of what was new may be stored, and the message is lost; it comes only if bytes come that
+/// begin within the stored ones or at their end. After `NoMemory` nothing has changed. Stored bytes are read only if some
 /// come again.
 pub fn take_append<R: Replica>(
     backup: &mut BackupLane<R>,

@@ -14,7 +14,7 @@ use rk_types::{Listed, Node};
 use std::alloc::Global;
 
 /// A backup takes a master's Read of a segment, and answers with a copy: of what its replica gives, as far as the segment's
-/// master has the same bytes in its log, which are `log`; none where either has no such segment. No segment changes. After
+/// master has the same bytes in its log, which are `log`; none if either has no such segment. No segment changes. After
 /// `Failed` the message is lost. A comparison of the bytes, and nothing is copied but by the replica.
 pub fn take_read<R: Replica>(
     backup: &mut BackupLane<R>,
@@ -42,7 +42,7 @@ pub fn take_read<R: Replica>(
     })
 }
 
-// Of what was read the longest first part that a log's segment begins with; none where either is not there.
+// Of what was read the longest first part that a log's segment begins with; none if either is not there.
 fn copied(read: Option<Vec<u8>>, log: &[u8]) -> Option<Listed<u8>>
     ensures { result ≡ copied_lem (option_map (λ bytes. bytes.items) read) log.now }
 {

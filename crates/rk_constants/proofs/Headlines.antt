@@ -138,7 +138,7 @@ bytes_of_copies = refl
 
 -- ---- scripts
 
--- The bytes that part words and lines, the one that begins a comment, those that words may have, and the digit of zero.
+-- The bytes that part words and lines, the byte that begins a comment, those that words may have, and the digit of zero.
 pub parting_bytes : BLANK ∷ TAB ∷ LINE_FEED ∷ COMMENT ∷ [] ≡ 32 ∷ 9 ∷ 10 ∷ 35 ∷ []
 parting_bytes = refl
 

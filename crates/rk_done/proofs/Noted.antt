@@ -1,4 +1,4 @@
--- What is noted of a call that ended, by whether its end is later than the one that is there.
+-- What is noted of a call that ended, by whether its end is later than the end that is there.
 use Rattle.std.proofs.Common.{◌≡◌, true, false}
 use Rattle.rk_types.specs.NumberMap.{get, insert}
 use Rattle.rk_types.specs.declared.call.Ended.{Ended}

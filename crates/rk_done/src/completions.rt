@@ -28,7 +28,7 @@ impl Model for Completions {
     ghost invariant = { λ a. IsInOrder a.completions.items };
 }
 
-// The place of the client, or where it would stand.
+// The place of the client, or where it would be.
 fn place(completions: &[(u32, Completion)], client: u32) -> Result<usize, usize>
     requires { IsInOrder completions.now }
     ensures found { IfOk result (IsAt client completions.now) }
@@ -68,7 +68,7 @@ impl Completions {
         Ok(())
     }
 
-    /// Notes how a call ended: it becomes its client's last completion where it is the first, or its seq is greater
+    /// Notes how a call ended: it becomes its client's last completion if it is the first, or its seq is greater
     /// than that of the last one; else nothing changes. It takes at most the room of one client.
     pub fn note(&mut self, ended: Ended)
         requires { 0 < self.old.room }

@@ -90,7 +90,7 @@ sound_forgotten w number sound =
 pub sound_come : (w : World) (client : ℕ) → IsSound w → MayCome (view w) client → IsSound (client_come w client)
 sound_come w client sound may = subst SoundView (sym (view_come w client may.new)) sound
 
--- A client may ask a call, where its last one, if any, is older and accepted.
+-- A client may ask a call when its last one, if any, is older and accepted.
 pub sound_asked : (w : World) (client : ℕ) (last : LastCall)
     → IsSound w → MayAsk (view w) client last → IsSound (call_asked_in w client last)
 sound_asked w client last sound may = subst SoundView (sym (view_is w client last)) (view_asked (view w) client last sound may)
@@ -103,11 +103,11 @@ sound_saved w client message sound may =
     view_with_messages v v.wire (insert v.requests client message) sound (each_may_be_sent v sound)
     (each_insert (λ c m. IsRequest v.asked v.journal c m.from m.body) v.requests client message sound.asked.again may.request)
 
--- The record of a client's last call may be accepted, where no record of it was.
+-- The record of a client's last call may be accepted if no record of it was.
 pub sound_accepted : (w : World) (place : ℕ) → IsSound w → MayAccept (view w) place → IsSound (record_accepted_in w place)
 sound_accepted w place sound may = view_accepted (view w) place sound may
 
--- A read may get its record, which tells what the journal leaves.
+-- A read may get its record, which gives what the journal leaves.
 pub sound_recorded : (w : World) (master : ℕ) (call : Call) (seen : ℕ) (outcome : Outcome)
     → IsSound w → MayRead (view w) master call seen outcome → IsSound (recorded_in w call outcome seen)
 sound_recorded w master call seen outcome sound may = view_recorded (view w) master call seen outcome sound may
@@ -136,7 +136,7 @@ pub sound_stored : (w : World) (master backup segment : ℕ) (bytes : List ℕ)
 sound_stored w master backup segment bytes sound may =
     sound_taken w master backup segment bytes sound may (get w.backups backup) refl
 
--- A master may be told that a backup stores so many bytes of a segment of its log.
+-- A backup may report to a master that it stores so many bytes of a segment of the master's log.
 pub sound_told : (w : World) (master backup segment size : ℕ)
     → IsSound w → MayTell (view w) master backup segment size → IsSound (length_told_in w master backup segment size)
 sound_told w master backup segment size sound may =
@@ -152,7 +152,7 @@ sound_closing w master tablet sound may =
 
 -- ---- roles
 
--- A source may close a tablet at a greater term, as its row asks it to, or where it is to rebuild the tablet that was its alone.
+-- A source may close a tablet at a greater term, as its row asks it to, or when it is to rebuild the tablet that was its alone.
 pub sound_closed : (w : World) (row : Row) (master term : ℕ)
     → IsSound w → MayClose (view w) row master term → IsSound (tablet_closed_in w master row.tablet term)
 sound_closed w row master term sound may =
@@ -173,7 +173,7 @@ pub sound_released : (w : World) (row : Row) (master : ℕ)
 sound_released w row master sound may =
     subst SoundView (sym (view_released w master row.tablet)) (view_given_up (view w) row master sound may)
 
--- The owner of a row, or one that owned it at the term that it keeps, may serve once its closing entry is applied.
+-- The owner of a row, or a master that owned it at the term that it keeps, may serve once its closing entry is applied.
 pub sound_owned : (w : World) (row : Row) (master : ℕ)
     → IsSound w → MayOwn (view w) row master → IsSound (tablet_owned_in w master row.tablet)
 sound_owned w row master sound may =
@@ -181,7 +181,7 @@ sound_owned w row master sound may =
 
 -- ---- rows
 
--- A row may be added for a master that serves it at once, where nobody speaks of its number or of its range so far.
+-- A row may be added for a master that serves it at once, if nobody speaks of its number or of its range so far.
 pub sound_added : (w : World) (tablet : ℕ) (range : Range) (master : ℕ)
     → IsSound w → MayAdd (view w) (new_row tablet range master) master → IsSound (tablet_added w tablet range master)
 sound_added w tablet range master sound may =
@@ -194,7 +194,7 @@ pub sound_migrated : (w : World) (row : Row) (to : ℕ)
 sound_migrated w row to sound may =
     view_changed (view w) row (row.term + 1) (Opening may.owner may.from to None) sound (may_begin (view w) row to sound may)
 
--- The place of a target may be noted, where that waits at it at the row's term.
+-- The place of a target may be noted if the target waits at it at the row's term.
 pub sound_noted : (w : World) (row : Row) (source sfrom target place : ℕ)
     → IsSound w → MayNote (view w) row source sfrom target place → IsSound (place_noted_in w row source sfrom target place)
 sound_noted w row source sfrom target place sound may =
@@ -221,7 +221,7 @@ sound_asked_for w master tablet sound =
     (view_goes_on (view w) master tablet (λ p. p.token) (λ p. p.batches) (λ p. batched p.hashes) sound
     (none_arrives (view w) master tablet (λ p. p.batches) (λ p. batched p.hashes) (λ p. batch_resolves p.hashes p.hashes.outstanding)))
 
--- Hashes may be resolved, where all items of the source that have them have arrived.
+-- Hashes may be resolved once all items of the source that have them have arrived.
 pub sound_resolved : (w : World) (row : Row) (source target : Member) (hashes : List ℕ)
     → IsSound w → MayResolve (view w) row source target hashes → IsSound (hashes_resolved_in w target.master row.tablet hashes)
 sound_resolved w row source target hashes sound may =
@@ -229,7 +229,7 @@ sound_resolved w row source target hashes sound may =
     (view_goes_on (view w) target.master row.tablet (λ p. p.token) (λ p. p.batches) (λ p. got p.hashes hashes) sound
     (of_one_row (view w) row source target (resolving hashes) sound may.pulling (goes_on (view w) row source target hashes may)))
 
--- A target may pass on to a token, where all items that the token has passed have arrived.
+-- A target may pass on to a token once all items that the token has passed have arrived.
 pub sound_passed : (w : World) (row : Row) (source target : Member) (next : Token)
     → IsSound w → MayPass (view w) row source target next → IsSound (token_passed_in w target.master row.tablet next)
 sound_passed w row source target next sound may =
@@ -237,7 +237,7 @@ sound_passed w row source target next sound may =
     (view_goes_on (view w) target.master row.tablet (λ p. next) (λ p. p.batches + 1) (λ p. p.hashes) sound
     (of_one_row (view w) row source target (passing next) sound may.pulling (passes_on (view w) row source target next may)))
 
--- It may replay an item of its source, which goes into the records where it is newer than what is there.
+-- It may replay an item of its source, which goes into the records if it is newer than what is there.
 pub sound_replayed : (w : World) (row : Row) (source target : Member) (worker : ℕ) (item : Held)
     → IsSound w → MayReplay (view w) row source target worker item
     → IsSound (item_replayed_in w target.master row.tablet worker item)
@@ -245,7 +245,7 @@ sound_replayed w row source target worker item sound may =
     subst SoundView (sym (view_item w target.master row.tablet worker item))
     (view_replayed (view w) row source target worker item sound may)
 
--- A rebuild may gather the segment that it awaits, where what was read is a first part of what backup 1 stores that holds all that its
+-- A rebuild may gather the segment that it awaits, if what was read is a first part of what backup 1 stores that holds all that its
 -- master knew to be stored there, and all that the row needs of it.
 pub sound_gathered : (w : World) (own : ℕ) (copy : CopySegment)
     → IsSound w → MayGather (view w) own copy.tenure.tablet copy.master copy.segment copy.bytes

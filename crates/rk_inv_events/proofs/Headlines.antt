@@ -85,8 +85,8 @@ pub entries_are_applied : (w : World) (master : ℕ) (now : Master) (ledger : Le
 entries_are_applied w master now ledger entries count sound alive within next =
     (stored.sound_all_applied w master alive entries now ledger count sound within next).sound
 
--- A sound lane stays sound when a living master lets its tablets go on, one after the other: one that closes freezes where nothing of it is
--- staged, and a target whose side segments every backup is known to hold appends its closing entry.
+-- A sound lane stays sound when a living master lets its tablets go on, one after the other: a tablet that closes freezes if nothing of it
+-- is staged, and a target whose side segments every backup is known to hold appends its closing entry.
 pub tablets_go_on : (w : World) (master : ℕ) (now : Master) (ledger : Ledger)
     → IsSound (with_work w master now ledger) → lives w master ≡ true → MayGoOn now.log now.tablets
     → IsSound (with_work w master (all_going_on now now.tablets) ledger)
@@ -102,11 +102,11 @@ module _ (w : World) (sound : IsSound w) where
   abbrev Taken : ℕ → Message → Type 0
   Taken master message = IsSound (to_master w master message).world
 
-  -- a message stands on the wire
+  -- a message is on the wire
   abbrev Stands : ℕ → Message → Type 0
   Stands number message = get w.wire.messages number ≡ Some message
 
-  -- so after a delivery, once the message that stands there is delivered
+  -- so after a delivery, once the message that is there is delivered
   delivers : (number : ℕ) (called : Called) (message : Message)
       → Stands number message → IsSound (delivered w (Some message) called).world → After (events.Deliver number) called
   delivers number called message stands = subst (λ (found : Option Message). IsSound (delivered w found called).world) (sym stands)
@@ -141,16 +141,16 @@ module _ (w : World) (sound : IsSound w) where
   pub questions_are_taken : (client : ℕ) (body : Body) → IsSound (to_coordinator w (to_desk (nodes.Client client) body)).world
   questions_are_taken client body = sound_question w client body sound
 
-  -- ---- backups that tell what they store
+  -- ---- backups that report what they store
 
   module _ (backup : ℕ) (segments : Segments) (there : is_backup w backup ≡ true) (tells : get w.backups backup ≡ Some segments) where
-    -- Such a one may take an Append of a master's log, whether or not its replica fails.
+    -- Such a backup may take an Append of a master's log, whether or not its replica fails.
     pub appends_are_stored : (master : ℕ) (append : Append) → IsMaster w.coordinator.masters master
         → IsFromLog (log_in w master) (known_of (log_in w master) backup) append → (fault : Option ℕ)
         → IsSound (to_backup w backup (nodes.Master master) (bodies.Append append) (append_called segments master append fault)).world
     appends_are_stored master append sender says = sound_append w backup master append segments sound there sender tells says
 
-    -- It may take a Read that stands on the wire, whether or not its replica fails.
+    -- It may take a Read that is on the wire, whether or not its replica fails.
     pub reads_are_answered : (number reader : ℕ) (read : ReadSegment) → IsMaster w.coordinator.masters read.master
         → Stands number (record { from = nodes.Master reader; to = nodes.Backup backup; body = bodies.Read read })
         → (fault : Option ℕ)
@@ -159,7 +159,7 @@ module _ (w : World) (sound : IsSound w) where
 
   -- ---- turns of masters
 
-  -- A master may send its backups what they are not known to hold, where its log has no more main segments than there can be.
+  -- A master may send its backups what they are not known to hold, if its log has no more main segments than there can be.
   pub appends_are_sent : (master : ℕ) → length (cut (log_in w master).entries) < FIRST_SIDE_SEGMENT
       → IsSound (with_all_sent w (appends (master_at w master)))
   appends_are_sent master few = sound_appends w master sound few
@@ -198,30 +198,30 @@ module _ (w : World) (sound : IsSound w) where
   pub crashes_are_noticed : (master : ℕ) (called : Called) → IsWellFormed w → After (events.Notice master) called
   crashes_are_noticed master called formed = sound_noticed w master sound formed
 
-  -- ---- reports to the coordinator that stand on the wire
+  -- ---- reports to the coordinator that are on the wire
 
-  -- A master may tell that it is ready to take a tablet over, and from which place of its log on.
+  -- A master may report that it is ready to take a tablet over, and from which place of its log on.
   pub readys_are_taken : (number master : ℕ) (ready : Ready) (called : Called)
       → Stands number (to_desk (nodes.Master master) (bodies.Ready ready)) → After (events.Deliver number) called
   readys_are_taken number master ready called stands =
       delivers number called (to_desk (nodes.Master master) (bodies.Ready ready)) stands (sound_ready w number master sound ready stands)
 
-  -- In a well formed lane it may tell what it hands over, once that is frozen.
+  -- In a well formed lane it may report what it hands over, once that is frozen.
   pub transfers_are_taken : (number master : ℕ) (transfer : Transfer) (called : Called) → IsWellFormed w
       → Stands number (to_desk (nodes.Master master) (bodies.Transfer transfer)) → After (events.Deliver number) called
   transfers_are_taken number master transfer called formed stands =
       delivers number called (to_desk (nodes.Master master) (bodies.Transfer transfer)) stands
       (sound_transfer w number master sound formed transfer stands)
 
-  -- In a well formed lane it may tell that it has joined.
+  -- In a well formed lane it may report that it has joined.
   pub joineds_are_taken : (number master : ℕ) (tenure : Tenure) (called : Called) → IsWellFormed w
       → Stands number (to_desk (nodes.Master master) (bodies.Joined tenure)) → After (events.Deliver number) called
   joineds_are_taken number master tenure called formed stands =
       delivers number called (to_desk (nodes.Master master) (bodies.Joined tenure)) stands
       (sound_joined w number master sound formed tenure stands)
 
-  -- In a well formed lane with room it may tell that it has rebuilt a row: where the row awaits it that rebuild is taken and the owner is
-  -- told, an owner is told once more, and else nothing changes.
+  -- In a well formed lane with room it may report that it has rebuilt a row: if the row awaits it that rebuild is taken and the owner
+  -- is sent its Own, an owner is sent it once more, and else nothing changes.
   pub rebuilts_are_taken : (number master : ℕ) (rebuilt : Rebuilt) (called : Called) → IsWellFormed w → HasRoom w
       → Stands number (to_desk (nodes.Master master) (bodies.Rebuilt rebuilt)) → After (events.Deliver number) called
   rebuilts_are_taken number master rebuilt called formed room stands =
@@ -235,14 +235,14 @@ module _ (w : World) (sound : IsSound w) where
         → awaits (master_at w master) copy ≡ false → Taken master (copy_message backup master copy)
     copies_are_passed_over backup copy is = copies.sound_passed w backup master copy lives sound is
 
-    -- It gathers one that it awaits,
+    -- It gathers a Copy that it awaits,
     pub copies_are_gathered : (number backup : ℕ) (copy : CopySegment) (reading : Reading)
         → Stands number (copy_message backup master copy) → awaits (master_at w master) copy ≡ true
         → next_after (master_at w master) copy ≡ Some reading → Taken master (copy_message backup master copy)
     copies_are_gathered number backup copy reading there awaited is =
         copies.sound_read_on w number backup master copy sound lives there awaited reading is
 
-    -- and where nothing is left to read it merges what it gathered, where it may.
+    -- and when nothing is left to read it merges what it gathered, if it may.
     pub last_copies_are_merged : (number backup : ℕ) (copy : CopySegment)
         → Stands number (copy_message backup master copy) → awaits (master_at w master) copy ≡ true
         → next_after (master_at w master) copy ≡ None
@@ -251,7 +251,7 @@ module _ (w : World) (sound : IsSound w) where
     last_copies_are_merged number backup copy there awaited is may =
         copies.sound_last w number backup master copy sound lives there awaited is may
 
-    -- ---- orders that stand on the wire, whether or not they still apply there
+    -- ---- orders that are on the wire, whether or not they still apply there
 
     -- It may take an Own.
     pub owns_are_taken : (number : ℕ) (tenure : Tenure)
@@ -273,19 +273,19 @@ module _ (w : World) (sound : IsSound w) where
         → IsOrdered w number master (bodies.Close tenure) → Taken master (order_to master (bodies.Close tenure))
     closes_are_taken number tenure ordered = sound_close w number master tenure sound lives ordered
 
-    -- In a well formed lane it may take a Grant, where its log has room.
+    -- In a well formed lane it may take a Grant, if its log has room.
     pub grants_are_taken : (number : ℕ) (grant : Grant) → IsWellFormed w → HasSegmentLeft (log_in w master)
         → IsOrdered w number master (bodies.Grant grant) → Taken master (order_to master (bodies.Grant grant))
     grants_are_taken number grant formed room ordered = sound_grant w number master grant sound formed lives room ordered
 
-    -- In a well formed lane that has room before and after it, it may take a Rebuild, and merges at once where there is nothing to gather.
+    -- In a well formed lane that has room before and after it, it may take a Rebuild, and merges at once if there is nothing to gather.
     pub rebuilds_are_begun : (number : ℕ) (rebuild : Rebuild) → IsWellFormed w → HasRoom w
         → IsOrdered w number master (bodies.Rebuild rebuild)
         → HasRoom (to_master w master (order_to master (bodies.Rebuild rebuild))).world
         → Taken master (order_to master (bodies.Rebuild rebuild))
     rebuilds_are_begun number rebuild formed room ordered fits = sound_rebuild w number master rebuild sound formed lives ordered room fits
 
-    -- ---- what masters pull of each other, by messages that stand on the wire
+    -- ---- what masters pull of each other, by messages that are on the wire
 
     -- A frozen source answers a Pull.
     pub pulls_are_taken : (number asker : ℕ) (pull : Pull)
@@ -324,8 +324,8 @@ module _ (w : World) (sound : IsSound w) where
       (copies.sound_taken w number backup master copy sound formed room there
       (subst (λ (found : Option Message). HasRoom (delivered w found called).world) there fits))
 
-  -- A master may take a Stored that stands on the wire, from one of its backups: what every backup is known to hold by then is applied,
-  -- what waited for that goes on, and the clients of the calls that end with it are told, with stamp and place.
+  -- A master may take a Stored that is on the wire, from one of its backups: what every backup is known to hold by then is applied,
+  -- what waited for that goes on, and the clients of the calls that end with it are answered, with stamp and place.
   pub storeds_are_taken : (number master backup : ℕ) (told : Stored)
       → IsBackup (log_in w master) backup → MayGoOn (log_in w master) (master_at w master).tablets
       → Stands number (stored_message backup master told) → Taken master (stored_message backup master told)
@@ -345,7 +345,7 @@ module _ (w : World) (sound : IsSound w) where
     requests_are_ignored is =
         requests.sound_chosen w master client request Ignores sound is (λ alive. requests.sound_ignored w master client request sound)
 
-    -- It may tell the client that the tablet is elsewhere.
+    -- It may answer the client that the tablet is elsewhere.
     pub requests_are_redirected : choice_in w master client request ≡ Redirects → Taken master (request_message client master request)
     requests_are_redirected is =
         requests.sound_chosen w master client request Redirects sound is (λ alive. requests.sound_redirected w master client request sound)
@@ -357,15 +357,15 @@ module _ (w : World) (sound : IsSound w) where
         requests.sound_chosen w master client request (Wants tablet) sound is
         (λ alive. requests.sound_put_off w master client request sound tablet)
 
-    -- ---- those that stand on the wire of a well formed lane
+    -- ---- Requests that are on the wire of a well formed lane
 
     module _ (number : ℕ) (formed : IsWellFormed w) (there : Stands number (request_message client master request)) where
-      -- The outcome of a call that was carried out before may be told again, with the record that the journal has of it.
+      -- The outcome of a call that was carried out before may be returned again, with the record that the journal has of it.
       pub outcomes_are_repeated : (end : End) → choice_in w master client request ≡ Repeats end
           → Taken master (request_message client master request)
       outcomes_are_repeated end is = writes.sound_told w number master client request sound formed there end is
 
-      -- What a get finds may be told, which gets its record at once.
+      -- A get may be answered with what it finds, and gets its record at once.
       pub finds_are_told : (outcome : Outcome) → choice_in w master client request ≡ Reads outcome
           → Taken master (request_message client master request)
       finds_are_told outcome is = writes.sound_got w number master client request sound formed there outcome is
@@ -375,7 +375,7 @@ module _ (w : World) (sound : IsSound w) where
           → StagesNothing (choice_in w master client request) → After (events.Deliver number) called
       requests_are_answered called none = writes.sound_answered w number master client request sound formed there called none
 
-      -- A write may be staged, where the master's log has room.
+      -- A write may be staged, if the master's log has room.
       pub writes_are_staged : (tablet : ℕ) → HasSegmentLeft (log_in w master)
           → choice_in w master client request ≡ Writes tablet → Taken master (request_message client master request)
       writes_are_staged tablet room chose =

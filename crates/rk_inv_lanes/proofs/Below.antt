@@ -1,4 +1,4 @@
--- Words of the crates below that the crates above take from here, so that these need not stand on those.
+-- Words of the crates below that the crates above take from here, so that these need not build on those.
 pub use Rattle.rk_inv_events.proofs.Below.{IsKept, Part, accept_keeps, ask_keeps, event_keeps, finishes, mapped, only_joined}
 pub use Rattle.rk_inv_events.proofs.Below.{sealed_accepted, sealed_asked, sealed_event, sealed_new, tell_accepted, tell_asked, tell_event}
 pub use Rattle.rk_inv_events.proofs.Below.{tell_new}

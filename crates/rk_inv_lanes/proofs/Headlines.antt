@@ -54,9 +54,9 @@ use Rattle.rk_world.specs.declared.event.Event.TheVariants as events
 pub kept_new : (lane masters backups : ℕ) → IsKept (new_world lane masters backups)
 kept_new lane masters backups = record { logged = logged_new lane masters backups; fits = fits_new lane masters backups }
 
--- In a sound and well formed lane with room, where that is so, it is so after each event that is not refused (`kept_event`), and the lane
+-- In a sound and well formed lane with room, if that is so, it is so after each event that is not refused (`kept_event`), and the lane
 -- has room then (`room_left`): no number is too great, its logs have few bytes, its masters few records, and each entry fits a segment. So
--- what must not be exceeded is refused before, where the lane is worn, and no event that is not refused goes too far.
+-- what must not be exceeded is refused before, when the lane is worn, and no event that is not refused goes too far.
 pub kept_event : (w : World) (event : Event) (called : Called) → IsSound w → IsWellFormed w → HasRoom w → IsKept w → MayHappen w event
     → refusal w event ≡ None → IsKept (happened w event called).world
 kept_event = Rattle.rk_inv_lanes.proofs.room.Events.kept_event
@@ -76,10 +76,10 @@ kept_accepted w number session kept = search (logged_accepted, fits_accepted, ke
 -- ---- what comes late
 
 -- Whatever lane it is: an order, a pull or a report of an older term, whenever it comes, changes no role, no table and no row.
--- A message to a master of a smaller term than the master keeps for the tablet does nothing at all (`older_changes_nothing`). One that the
--- master passes over, since it comes late or asks for a move that the tablet does not make, changes nothing (`passed_changes_nothing`), and
--- but for two cases sends nothing (`passed_is_silent`): a target that waits for its grant since that very Prepare tells again that it is
--- ready (`ready_again_sent`), and a source that is frozen since that very Close hands its tablet over again (`transfer_sent`).
+-- A message to a master of a smaller term than the master keeps for the tablet does nothing at all (`older_changes_nothing`). A message
+-- that it passes over, since it comes late or asks for a move that the tablet does not make, changes nothing (`passed_changes_nothing`),
+-- and but for two cases sends nothing (`passed_is_silent`): a target that waits for its grant since that very Prepare reports again that it
+-- is ready (`ready_again_sent`), and a source that is frozen since that very Close hands its tablet over again (`transfer_sent`).
 module _ (w : World) (number master : ℕ) where
   pub older_changes_nothing : (message : Message) (called : Called) → get w.wire.messages number ≡ Some message
       → message.to ≡ Node.Master master → IsOlder (master_at w master) message.body
@@ -120,8 +120,8 @@ pub transfer_sent : (w : World) (number master : ℕ) (tenure : Tenure) (called 
 transfer_sent = Rattle.rk_inv_lanes.proofs.late.Lanes.transfer_sent
 
 -- A report about a tablet without a row or of another term than the row's, or of a master that was noticed dead, does nothing at all
--- (`late_report_changes_nothing`): the coordinator, the journal and the wire stay as they are. One that the row does not wait for does
--- nothing either (`unawaited_changes_nothing`), but that the owner is told again that it owns the tablet where it reports that it has ended
+-- (`late_report_changes_nothing`): the coordinator, the journal and the wire stay as they are. A report that the row does not wait for does
+-- nothing either (`unawaited_changes_nothing`), but that the owner is sent its Own again if it reports that it has ended
 -- its work (`owner_told_again`).
 pub late_report_changes_nothing : (w : World) (number sender : ℕ) (body : Body) (tenure : Tenure) (called : Called)
     → get w.wire.messages number ≡ Some (report_of sender body) → tenure_in body ≡ Some tenure → IsLateReport w.coordinator sender tenure
@@ -143,9 +143,9 @@ pub owner_told_again : (w : World) (number sender : ℕ) (body : Body) (tenure :
 owner_told_again w number sender body tenure row called there speaks heard found same again =
     Rattle.rk_inv_lanes.proofs.late.Lanes.owner_told_again w number sender body tenure called there speaks row heard found same again
 
--- A master refuses a call only where it may: it answers Moved only where no tablet that it serves has the key, and NotYet only where the
--- record may not have arrived. It is so of what each master chooses, where its tablets stand by number, and of each such Reply that is on
--- the wire once a Request is delivered and was not before.
+-- A master refuses a call only when it may: it answers Moved only if no tablet that it serves has the key, and NotYet only if the
+-- record may not have arrived. It is so of what each master chooses, if its tablets are ordered by number, and of each such Reply that is
+-- on the wire once a Request is delivered and was not before.
 pub moved_justified : (master : Master) (call : Call) → choice_of master call ≡ Redirects → MayAnswerMoved master call
 moved_justified = Rattle.rk_inv_lanes.proofs.late.Refusals.moved_justified
 
@@ -188,9 +188,9 @@ sound_requests w sound client request there =
 
 -- ---- what backups store of a quiet lane
 
--- In a sound and well formed lane that is quiet, whatever its history starts from, what each backup that tells stores of a row has just the
--- records of the history: its main segments are read back, up to one that was never written, and the side segments that these name. It
--- holds where no log has more main segments than there are numbers for them, as in a lane with room.
+-- In a sound and well formed lane that is quiet, whatever its history starts from, what each reporting backup stores of a row has just the
+-- records of the history: its main segments are read back, up to a segment that was never written, and the side segments that these name.
+-- It holds if no log has more main segments than there are numbers for them, as in a lane with room.
 pub quiet_stands : (w : World) (sessions : List Session) → IsSound w → IsWellFormed w → HasOwnBackups w
     → IsQuiet w.coordinator.rows w.crashed (live_masters w) sessions
     → ((master : ℕ) → length (cut (log_in w master).entries) < FIRST_SIDE_SEGMENT) → Stands w
@@ -202,9 +202,9 @@ pub quiet_stands_in_room : (w : World) (sessions : List Session) → IsSound w �
 quiet_stands_in_room w sessions sound formed room told quiet =
     quiet_stands w sessions sound formed told quiet (λ q. let left = segments_left w formed room q in omega (arith, left))
 
--- The backups of a lane that tell what they store are its own, whatever happens; and in a lane that began with nothing all of them tell.
+-- The backups of a lane that report what they store are its own, whatever happens; and in a lane that began with nothing all of them do.
 
--- in a lane where nothing has happened all backups tell
+-- in a lane where nothing has happened all backups report
 pub all_new : (lane masters backups : ℕ) → AllBackupsTell (new_world lane masters backups)
 all_new lane masters backups = numbers_are (λ number. no_segments) (range_with_len 1 backups)
 
@@ -222,7 +222,7 @@ own_after w happening own = goes_on AreBackups
     })
     w own happening
 
--- where all of so many tell what they store, those that tell are they
+-- if all of so many report what they store, those that report are they
 pub own_where_all_tell : (w : World) → AllBackupsTell w → HasOwnBackups w
 own_where_all_tell w are = record {
   order = numbered_order w.backups w.backup_count are;
@@ -233,12 +233,12 @@ own_where_all_tell w are = record {
 
 -- ---- wires that empty
 
--- A wire empties. Where its oldest message arrives and is forgotten, again and again, nothing is on it after as many messages as
+-- A wire empties. When its oldest message arrives and is forgotten, again and again, nothing is on it after as many messages as
 -- `deliveries_left` counts in the lane at the start (`empties`): however each of them arrives, whatever the calls of replicas come to,
--- whatever is lost, and whatever the nodes know. It takes no more where the lane is worn: a delivery is refused then, but the message is
+-- whatever is lost, and whatever the nodes know. It takes no more if the lane is worn: a delivery is refused then, but the message is
 -- forgotten.
--- Each message that is taken off leaves fewer deliveries, whichever it is (`taken_off_fewer`). The masters have to stand in their order, as
--- they do in each lane that is well formed (`masters_in_order`), and they go on doing so (`taken_off_order`).
+-- Each message that is taken off leaves fewer deliveries, whichever it is (`taken_off_fewer`). The masters have to be in their order, as
+-- they are in each lane that is well formed (`masters_in_order`), and they stay so (`taken_off_order`).
 pub empties : (w : World) (arrivals : List Arrival) → IsInOrder w.masters → deliveries_left w ≤ length arrivals
     → number_at 1 (emptied w arrivals).wire ≡ None
 empties w arrivals order few = silent_after arrivals w order few
@@ -266,7 +266,7 @@ caught_new lane masters backups master =
       count_is = λ some few. refl;
     })
 
--- They stay so at each event, whatever is sent: what is appended no backup is known to hold, and where a backup tells that it holds more,
+-- They stay so at each event, whatever is sent: what is appended no backup is known to hold, and when a backup reports that it holds more,
 -- what all of them hold by then is applied at once. The lane need not be well formed.
 pub events_keep_masters_caught_up : (w : World) (event : Event) (called : Called) → AllCaughtUp w
     → AllCaughtUp (happened w event called).world

@@ -13,16 +13,16 @@ use Rattle.rk_inv_logs.proofs.read.ReadBack.{by_lineage}
 -- ---- an entry is applied
 
 -- A sound lane stays sound when the next entry of a living master's log is applied, once every backup is known to hold it. An item goes
--- into the records; and where a call waits for the entry, it gets its record and waits no more.
+-- into the records; and if a call waits for the entry, it gets its record and waits no more.
 pub sound_applied : (w : World) (master : ℕ) (entry : Entry) → IsSound w → MayApply (view w) master
     → slice_get (log_in w master).entries (master_at w master).applied ≡ Some entry → IsSound (entry_applied_in w master entry)
 sound_applied w master entry sound may stands = Rattle.rk_inv_logs.proofs.apply.EntryApplied.sound_applied w master sound may entry stands
 
 -- ---- what a rebuild has read
 
--- Once a rebuild may be taken, what its master has read of the row's lineage is the row's truth and a first part of its rest: it tells just
--- the items of these, and each end of these in its order. So no acknowledged call is lost with a master, and none comes back in another
--- order.
+-- Once a rebuild may be taken, what its master has read of the row's lineage is the row's truth and a first part of its rest: it records
+-- just the items of these, and each end of these in its order. So no acknowledged call is lost with a master, and none comes back in
+-- another order.
 pub read_of_rebuilt : (v : View) (row : Row) (lineage : List Member) (to place : ℕ) (ends : List Ended) → SoundView v
     → MayTakeRebuiltFormed v row lineage to place ends → IsReadBack (truths v row) (rests v row) (read_by_member v row to)
 read_of_rebuilt v row lineage to place ends sound may = by_lineage v row to place ends sound may.readable
@@ -30,10 +30,10 @@ read_of_rebuilt v row lineage to place ends sound may = by_lineage v row to plac
 
 -- ---- the records that rebuilt ends make
 
--- Where the truth of a row and a first part of its rest were read of the members of its lineage, the ends that are merged of them make the
--- records that the ends of the calls of that part make, in their order: each but for its stamp the one that the staged call was to make.
+-- If the truth of a row and a first part of its rest were read of the members of its lineage, the ends that are merged of them make the
+-- records that the ends of the calls of that part make, in their order: each but for its stamp the record that the staged call was to make.
 -- They are of keys of the row, go on lawfully from the journal, and give no mutation a second record. So what counts for each other row
--- tells all of it still. With them each end that is kept is known, and the ends that are kept reach each mutation of the row.
+-- still records all of it. With them each end that is kept is known, and the ends that are kept reach each mutation of the row.
 module _ (v : View) (row : Row) (members : List (List Entry)) (sound : SoundView v) (has : Contains v.rows row)
     (read : IsReadBack (truths v row) (rests v row) members) where
   pub made_is : made_of v.asked v.journal (merged_ends members) ≡ made_of v.asked v.journal (call_ends read.part)

@@ -16,9 +16,9 @@ use Rattle.rk_world.specs.declared.event.Event.TheVariants as events
 
 -- ---- another lineage
 
--- A sound lane stays sound when a row moves, once its source is frozen and has told what it hands over and its target waits at its place;
--- and when the target of a row that moved owns it, once its closing entry is applied. The range of the row is not empty: so it is in each
--- lane that is well formed.
+-- A sound lane stays sound when a row moves, once its source is frozen and has reported what it hands over and its target waits at its
+-- place; and when the target of a row that moved owns it, once its closing entry is applied. The range of the row is not empty: so it is in
+-- each lane that is well formed.
 pub sound_moved : (w : World) (row : Row) (source sfrom target dfrom : ℕ) (given : Handed) → IsSound w → HasSome row.range
     → MayMove (view w) row source sfrom target dfrom given → IsSound (row_moved_in w row source sfrom target dfrom given)
 sound_moved w row source sfrom target dfrom given sound some may =
@@ -36,8 +36,8 @@ sound_joined_taken w row source sfrom target dfrom sound some may =
 
 -- ---- a split
 
--- What counts of a log for a half of a range is what counts for the half of what counts for the whole, where each Carried and each Joined
--- that meets the whole has all of it. Where that is the truth and the rest of the whole, it is those of the half.
+-- What counts of a log for a half of a range is what counts for the half of what counts for the whole, if each Carried and each Joined
+-- that meets the whole has all of it. If that is the truth and the rest of the whole, it is those of the half.
 module _ (whole half : Range) (half_is : IsHalf whole half) where
   pub half_truth : (written : ℕ → Written) (member : Member) → All (IsOfWhole whole) (written member.master).entries
       → member_truth written half member ≡ counting half (member_truth written whole member)
@@ -64,7 +64,7 @@ sound_split w row at new sound may =
 
 -- ---- finished migrations
 
--- In a sound lane, where a row moves to a target that was not noticed dead, the delivery of a Joined of the row's term to the coordinator
+-- In a sound lane, if a row moves to a target that was not noticed dead, the delivery of a Joined of the row's term to the coordinator
 -- finishes the migration: the message is the target's, the target owns the row then, and what counts of the target alone has the records of
 -- what counted of the source, overlaid by the target's own writes. By no other event does a row that moves come to be owned.
 module _ (before : World) (stepped : Stepped) (row : Row) (source target : Member) (sound : IsSound before)

@@ -1,5 +1,5 @@
--- The headline laws of a master's tablets. A sound lane stays sound when one is made ready or rebuilt, granted, sealed or merged, and when a
--- master crashes; and each lane is steady from its start on: backups report what they store, and what targets have sealed is there.
+-- The headline laws of a master's tablets. A sound lane stays sound when one is made ready or rebuilt, granted, sealed or merged, and when
+-- a master crashes; and each lane is steady from its start on: backups report what they store, and what targets have sealed is there.
 use Rattle.std.proofs.Common.{◌≡◌, ◌<◌, ℕ, sym, ap, subst, arith}
 use Rattle.rk_inv_base.proofs.Words.{Member, number_of, Row, Grant, Prepare, Rebuild, Called, accept, ask, Session, IsWellFormed, AllTell}
 use Rattle.rk_inv_base.proofs.Words.{is_absent, world_visited, happened, World, new_world, tablet_in, Event, view, IsSound, SoundView}
@@ -39,8 +39,8 @@ sound_begun w row master rebuild sound may =
     subst SoundView (sym (view_begun_in w master rebuild (sound.nodes.numbered master) greater))
     (view_begun (view w) row master rebuild sound may)
 
--- So it does when a living target that waits for a row's tablet is granted it, by what the row's source told: it then has in its log what
--- that told, and pulls.
+-- So it does when a living target that waits for a row's tablet is granted it, by what the row's source handed over: it then has that in
+-- its log, and pulls.
 pub sound_granted : (w : World) (row : Row) (source target : Member) (grant : Grant)
     → IsSound w → MayGrantFormed (view w) row source target grant
     → IsSound (tablet_granted_in w target.master grant)
@@ -59,20 +59,20 @@ sound_sealed w master tablet sound may =
     rw (← number_is) (subst SoundView (sym (sealed_is w master found.0.tablet))
     (view_sealed (view w) found.0 master sound (found_stands (view w).rows tablet found.0 found.1) (rw number_is may)))
 
--- So it does when a living master that has gathered all for a tablet merges it: the copies and the entry that closes the rebuild stand at
+-- So it does when a living master that has gathered all for a tablet merges it: the copies and the entry that closes the rebuild are at
 -- the end of its log as one piece, which bears a mark and counts for nobody yet.
 pub a_merge_keeps_lanes_sound : (w : World) (master tablet : ℕ)
     → IsSound w → MayMergeFormed (view w) master tablet → IsSound (rebuild_merged_in w master tablet)
 a_merge_keeps_lanes_sound = sound_merged
 
--- So it does when a master crashes while another one lives, where the rows have ranges that are not empty, what logs hold can be read
+-- So it does when a master crashes while another one lives, if the rows have ranges that are not empty, what logs hold can be read
 -- again, and the master has gathered no more main segments of another one than there can be, as it is in each well formed lane.
 pub sound_crashed : (w : World) (master : ℕ) → IsSound w → MayCrashFormed (view w) master → IsSound (with_crash w master)
 sound_crashed w master sound may = rw (crash_seen w master) (view_crashed (view w) master sound may)
 
 -- ---- what is so from the start on
 
--- In a lane where nothing has happened each backup tells what it stores.
+-- In a lane where nothing has happened each backup reports what it stores.
 pub new_lanes_tell : (lane masters backups : ℕ) → AllTell (new_world lane masters backups)
 new_lanes_tell = tell_new
 
@@ -80,17 +80,17 @@ new_lanes_tell = tell_new
 pub new_lanes_are_sealed : (lane masters backups : ℕ) → AllSealedThere (new_world lane masters backups)
 new_lanes_are_sealed = sealed_new
 
--- Each backup goes on to tell what it stores at each event, whatever is sent.
+-- Each backup goes on to report what it stores at each event, whatever is sent.
 pub lanes_tell_on : (w : World) (event : Event) (called : Called) → AllTell w → AllTell (happened w event called).world
 lanes_tell_on = tell_event
 
 -- What targets have sealed goes on to be there, in a well formed lane: a master goes through its tablets in turn, and each of them has to
--- stand there once.
+-- be there once.
 pub lanes_stay_sealed : (w : World) (event : Event) (called : Called)
     → IsWellFormed w → AllSealedThere w → AllSealedThere (happened w event called).world
 lanes_stay_sealed = sealed_event
 
--- Backups go on to tell when a client takes its turn.
+-- Backups go on to report when a client takes its turn.
 pub asked_lanes_tell : (w : World) (session : Session) → AllTell w → AllTell (world_visited w (ask w session))
 asked_lanes_tell = tell_asked
 
@@ -99,7 +99,7 @@ pub asked_lanes_are_sealed : (w : World) (session : Session)
     → AllSealedThere w → AllSealedThere (world_visited w (ask w session))
 asked_lanes_are_sealed = sealed_asked
 
--- Backups go on to tell when a client takes an answer.
+-- Backups go on to report when a client takes an answer.
 pub answered_lanes_tell : (w : World) (number : ℕ) (session : Session)
     → AllTell w → AllTell (world_visited w (accept w number session))
 answered_lanes_tell = tell_accepted

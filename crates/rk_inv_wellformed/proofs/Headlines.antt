@@ -25,7 +25,7 @@ new_lanes_are_well_formed = new_is_well_formed
 
 -- ---- events
 
--- A well formed lane stays so at each event that may happen there, is not refused and leaves another master alive, where the lane has
+-- A well formed lane stays so at each event that may happen there, is not refused and leaves another master alive, if the lane has
 -- room before and after it.
 pub events_keep_lanes_well_formed : (w : World) (event : Event) (called : Called)
     → MayHappen w event → MayCome called → IsCalmEvent w event → refusal w event ≡ None
@@ -46,7 +46,7 @@ pub bytes_rise_at_most : (w : World) (event : Event) (called : Called)
     → IsWellFormed w → HasRoom w → bytes_of_logs (happened w event called).world ≤ most_after w event
 bytes_rise_at_most = bytes_rise
 
--- So they fit where it brings few.
+-- So they fit if it brings few.
 pub bytes_fit : (w : World) (event : Event) (called : Called)
     → MayHappen w event → refusal w event ≡ None → brought w event ≤ MOST_BROUGHT
     → IsWellFormed w → HasRoom w → bytes_of_logs (happened w event called).world < MOST_BYTES
@@ -109,7 +109,7 @@ runs_have_room w (happening ∷ later) may calm formed number fits =
 
 -- ---- what masters append
 
--- What a master of a well formed lane with room appends when it takes a message from the wire can be spelled, also where its log turns
+-- What a master of a well formed lane with room appends when it takes a message from the wire can be spelled, also when its log turns
 -- out to have no room for it: the entry that begins what it was granted,
 pub grants_can_be_spelled : (w : World) (master number : ℕ) (from to : Node) (grant : Grant)
     → StandsOn w master number from to (Body.Grant grant) → GrantSpells (master_at w master) grant

@@ -13,13 +13,13 @@ use Rattle.rk_world.specs.Premises.{IsMaster}
 use Rattle.rk_world.specs.Room.{HasRoom, MOST_NUMBER}
 use Rattle.rk_world.specs.World.{World}
 
--- where a Grant applies, the entry that begins what the target has of the tablet can be spelled
+-- if a Grant applies, the entry that begins what the target has of the tablet can be spelled
 abbrev pub GrantSpells : Master → Grant → Type 0
 GrantSpells master grant =
     IfSome (granted (tablet_at master grant.tenure.tablet).handover grant.tenure.term grant.floor)
     (λ handover. IsLawfulEntry (carried_entry handover grant))
 
--- a message that a master of a lane may take: it stands on the wire, and the lane is well formed, has room, and is so little worn that
+-- a message that a master of a lane may take: it is on the wire, and the lane is well formed, has room, and is so little worn that
 -- its greatest number may rise by one
 pub record StandsOn (w : World) (master number : ℕ) (from to : Node) (body : Body) : Type 0 where
   pub formed : IsWellFormed w

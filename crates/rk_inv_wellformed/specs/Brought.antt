@@ -14,7 +14,7 @@ use Rattle.rk_world.specs.Gather.{Gather, counted, gathering}
 use Rattle.rk_world.specs.Master.{Master, tablet_at}
 use Rattle.rk_world.specs.World.{World, bytes_of_logs, master_at}
 
--- where an event brings no more bytes than this, the logs of a lane that is not worn fit after it
+-- if an event brings no more bytes than this, the logs of a lane that is not worn fit after it
 abbrev pub MOST_BROUGHT : ℕ
 MOST_BROUGHT = 2 ^ 27
 

@@ -21,7 +21,7 @@ pub work_keeps_lanes_ready : (masters : ℕ) (start : Cluster) (occurred : List 
 work_keeps_lanes_ready = Rattle.rk_laws_drives.proofs.Working.work_keeps
 
 -- A settling command, as `settle`, leaves a ready cluster ready, and its sessions as they were: after any moves of its course, whatever
--- becomes of the calls of replicas there (`fates`), where what occurred is a run of the cluster at its start, as it is of each course that
+-- becomes of the calls of replicas there (`fates`), if what occurred is a run of the cluster at its start, as it is of each course that
 -- code makes.
 pub settling_keeps_lanes_ready : (masters : ℕ) (command : SettlingCommand) (start : Cluster) (fates : List Fate)
     → let course = moved_all (course_of start (command start)) fates in

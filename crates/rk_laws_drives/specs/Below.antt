@@ -1,4 +1,4 @@
--- Words of the crates below that the crates above take from here, so that these need not stand on those.
+-- Words of the crates below that the crates above take from here, so that these need not build on those.
 pub use Rattle.rk_laws_lanes.specs.Below.{waiting}
 pub use Rattle.rk_laws_lanes.specs.GoodLane.{IsGoodLane}
 pub use Rattle.rk_laws_lanes.specs.gathered.Answers.{AreOfDistinctCalls, HasJustTheAnswers}

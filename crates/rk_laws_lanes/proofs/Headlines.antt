@@ -36,7 +36,7 @@ pub lanes_of_runs_are_good : (masters backups lane : ℕ) (list : List Occurrenc
     → IsGoodLane masters lane (lane_at (cluster_run (new_cluster masters backups) list) lane)
 lanes_of_runs_are_good = Rattle.rk_laws_lanes.proofs.OfRuns.good_in_run
 
--- A good lane stays good at each event that may happen there and is not refused, where replicas answer what they store, and a crash leaves
+-- A good lane stays good at each event that may happen there and is not refused, if replicas answer what they store, and a crash leaves
 -- another master alive.
 pub events_keep_lanes_good : (masters number : ℕ) (w : World) (event : Event) (called : Called) → IsGoodLane masters number w
     → MayHappen w event → MayCome called → IsTold w event called → IsCalmEvent w event → refusal w event ≡ None
@@ -51,7 +51,7 @@ module _ (masters number : ℕ) (w : World) (session : Session) (good : IsGoodLa
   pub good_accepts : (message : ℕ) → IsGoodLane masters number (world_visited w (accept w message session))
   good_accepts = Rattle.rk_laws_lanes.proofs.Clients.good_accepts masters number w session good may
 
--- An event accepts no record and asks no call, and but for the one that adds a client, the lane has the clients that it had.
+-- An event accepts no record and asks no call, and unless it adds a client, the lane has the clients that it had.
 pub same_counts : (w : World) (event : Event) (called : Called) → HasSameCounts w.ledger (happened w event called).world.ledger
 same_counts = Rattle.rk_laws_lanes.proofs.Ledgers.same_counts
 
@@ -59,7 +59,7 @@ pub same_clients : (w : World) (event : Event) (called : Called) → AddsNoClien
     → HasSameClients w.ledger (happened w event called).world.ledger
 same_clients = Rattle.rk_laws_lanes.proofs.Ledgers.same_clients
 
--- A client of a lane that takes its turn there for a call that fits asks the call once: the lane counts it where it was not asked there
+-- A client of a lane that takes its turn there for a call that fits asks the call once: the lane counts it if it was not asked there
 -- before.
 pub asks_are_counted : (w : World) (session : Session) (call : Call) → session.outstanding ≡ Some call
     → is_added w.ledger session.client ≡ true → fits_with w session call ≡ true → IsAskedOnce w session call (asking w session (Some call))

@@ -10,7 +10,7 @@ use Rattle.rk_runs.specs.Below.{AllBackupsTell}
 use Rattle.rk_runs.specs.Below.{IsSteady}
 
 -- a lane of this number, with so many masters, is good: it is sound and well formed and has room, also for what comes next (`kept`); it is
--- steady, each of its backups tells what it stores, and its history starts from nothing
+-- steady, each of its backups reports what it stores, and its history starts from nothing
 pub record IsGoodLane (masters number : ℕ) (w : World) : Type 0 where
   pub sound : IsSound w
   pub formed : IsWellFormed w

@@ -1,4 +1,4 @@
--- The headline laws of parcels: one that is told twice, or replayed by two workers, delivers its message once.
+-- The headline laws of parcels: a parcel that is replayed twice, or by two workers, delivers its message once.
 use Rattle.std.proofs.Common.{◌≡◌, ℕ, Option, None, Ok, ap, [], ◌∷◌, Result, sym, ◌∙◌, subst, Some, refl, List}
 use Rattle.rk_types.specs.NumberMap.{get}
 use Rattle.rk_message.specs.Wire.{HasSentNumbers}
@@ -15,12 +15,12 @@ use Rattle.rk_laws_parcels.proofs.Parcels.{ok_world, replays, forgets, gone_sent
 use Rattle.rk_laws_parcels.proofs.Wires.{run_keeps}
 
 -- Whatever lane it is, and whatever the calls of replicas come to: a parcel delivers its message once, however often it is replayed.
--- A parcel whose message is not on the wire changes nothing and is not refused (`missing`). Where one is replayed that is not passed over,
--- its message reaches its receiver and is forgotten, as in a run (`delivers`), and is on the wire no more (`gone`). So replaying the same
--- parcel again changes nothing (`twice`), whatever happened in the lane in between: its number is not given to another message (`later`),
--- since the numbers of the wire are those of messages that were sent.
+-- A parcel whose message is not on the wire changes nothing and is not refused (`missing`). If a parcel is replayed that is not passed
+-- over, its message reaches its receiver and is forgotten, as in a run (`delivers`), and is on the wire no more (`gone`). So replaying the
+-- same parcel again changes nothing (`twice`), whatever happened in the lane in between: its number is not given to another message
+-- (`later`), since the numbers of the wire are those of messages that were sent.
 
--- where there is no message nothing changes
+-- if there is no message nothing changes
 pub missing : (w : World) (number : ℕ) (called : Called) → get w.wire.messages number ≡ None → replayed w number called ≡ Ok w
 missing w number called none = ap (λ (found : Option Message). replayed_by w number called (delivery_fault number found)) none
 

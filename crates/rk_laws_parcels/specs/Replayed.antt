@@ -17,12 +17,12 @@ passed_over w number = delivery_fault number (get w.wire.messages number)
 abbrev pub forgotten : World → ℕ → World
 forgotten w number = world_stepped w (step w (events.Forget number) (Gave None))
 
--- a message that was delivered is forgotten; where its delivery was refused, nothing has changed
+-- a message that was delivered is forgotten; if its delivery was refused, nothing has changed
 abbrev pub forgotten_after : ℕ → Result Stepped StepError → Result World StepError
 forgotten_after number (Err error) = Err error
 forgotten_after number (Ok stepped) = Ok (forgotten stepped.world number)
 
--- the message of a number is delivered and then forgotten, unless it is passed over; `called` tells what the call of a replica comes
+-- the message of a number is delivered and then forgotten, unless it is passed over; `called` gives what the call of a replica comes
 -- to, if one is called
 abbrev pub replayed_by : World → ℕ → Called → Option StepError → Result World StepError
 replayed_by w number called (Some passed) = Ok w

@@ -23,8 +23,8 @@ pub live_of_joined_lists : (found : Found) (front back : List Held)
     → live_from found (front ++ back) ≡ live_from (newest_from found front) back
 live_of_joined_lists found front back = λ i table key. record_of (newest_from-append found front back i table key)
 
--- The item that is found of a record stands in the list, and none of the record there has a greater version; none is
--- found exactly where no item is of the record. Every newest item has the version of the one that is found, and in a
+-- The item that is found of a record is in the list, and none of the record there has a greater version; none is
+-- found exactly when no item is of the record. Every newest item has the version of the item that is found, and in a
 -- plain list is that one.
 pub newest_item_has_the_greatest_version : (items : List Held) (table : ℕ) (key : List ℕ) (item : Held) → newest items table key ≡ Some item
     → IsNewest items table key item
@@ -64,7 +64,7 @@ no_other_list_is_the_overlay a b items = Rattle.rk_overlay.proofs.Overlays.newes
 pub overlay_is_plain : (a b : List Held) → IsPlain (overlay a b)
 overlay_is_plain a b = Rattle.rk_overlay.proofs.Overlays.newest_items_plain (a ++ b)
 
--- An overlay stands for its two lists: it has their newest items and their records, and a list that is laid on it may
+-- An overlay represents its two lists: it has their newest items and their records, and a list that is laid on it may
 -- as well be laid on them. So a list without items changes nothing when it is laid on it.
 pub overlay_has_the_newest_items_of_both : (a b : List Held) (table : ℕ) (key : List ℕ)
     → newest (overlay a b) table key ≡ newest (a ++ b) table key
@@ -79,7 +79,7 @@ overlays_join a b c = grind (arith, append_assoc, newest_items_same, newest_from
 pub overlay_of_nothing_changes_nothing : (a b : List Held) → overlay (overlay a b) [] ≡ overlay a b
 overlay_of_nothing_changes_nothing a b = overlays_join a b [] ∙ ap (overlay a) (append-nil b)
 
--- Plain lists in which the same items stand, in whatever order and however often, have the same newest items, records
+-- Plain lists of the same items, in whatever order and however often, have the same newest items, records
 -- and overlays.
 pub newest_of_plain_lists_alike : (xs ys : List Held) (table : ℕ) (key : List ℕ) → IsPlain xs → HaveSame xs ys
     → newest xs table key ≡ newest ys table key
@@ -95,7 +95,7 @@ overlays_of_plain_lists_alike a b c d = newest_items_alike (a ++ b) (c ++ d)
 pub plain_lists_may_change_places : (a b : List Held) → IsPlain (a ++ b) → overlay a b ≡ overlay b a
 plain_lists_may_change_places = Rattle.rk_overlay.proofs.Alike.overlay_swapped
 
--- Of two lists that are plain together, an item that stands in one of them changes nothing when it is put before the
+-- Of two lists that are plain together, an item that is in one of them changes nothing when it is put before the
 -- second. A list that is laid on itself changes nothing, plain or not.
 pub repeated_item_changes_nothing : (a b : List Held) (item : Held) → IsPlain (a ++ b) → Contains (a ++ b) item
     → overlay a (item ∷ b) ≡ overlay a b

@@ -4,7 +4,7 @@ use Rattle.std.specs.Option.{option_map}
 use Rattle.rk_types.specs.declared.held.Held.{Held}
 use Rattle.rk_overlay.specs.Newest.{Found, none_found, newest_from, IsNewest}
 
--- the version and value of the record that an item makes; none for a tombstone, and where no item was found
+-- the version and value of the record that an item makes; none for a tombstone, and if no item was found
 abbrev pub record_of : Option Held → Option (ℕ × List ℕ)
 record_of None = None
 record_of (Some item) = option_map (λ value. (item.version, value)) item.value

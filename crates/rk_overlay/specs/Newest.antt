@@ -33,7 +33,7 @@ newest_from found (item ∷ items) = newest_from (with_newer found item) items
 abbrev pub newest : List Held → Found
 newest items = newest_from none_found items
 
--- an item of a record that stands in a list, and none of the record there has a greater version
+-- an item of a record that is in a list, and none of the record there has a greater version
 pub record IsNewest (items : List Held) (table : ℕ) (key : List ℕ) (item : Held) : Type 0 where
   pub stands : Contains items item
   pub of_record : is_of table key item ≡ true
@@ -55,7 +55,7 @@ pub record IsNewestBefore (items : List Held) (table : ℕ) (key : List ℕ) (en
 abbrev pub HasNoneBefore : List Held → ℕ → List ℕ → ℕ → Type 0
 HasNoneBefore items table key end = (k : ℕ) (d : Held) → k < end → is_of table key (slice_index_or items k d) ≡ false
 
--- the newest among the items before `end`, or none where none of them is of the record
+-- the newest among the items before `end`, or none if none of them is of the record
 abbrev pub IsBestBefore : List Held → ℕ → List ℕ → ℕ → Option ℕ → Type 0
 IsBestBefore items table key end None = HasNoneBefore items table key end
 IsBestBefore items table key end (Some place) = IsNewestBefore items table key end place

@@ -8,6 +8,6 @@ IsPlain items =
     (a b : Held) → Contains items a → Contains items b
     → a.table ≡ b.table → a.key ≡ b.key → a.version ≡ b.version → a ≡ b
 
--- what stands in one list stands in the other
+-- what is in one list is in the other
 abbrev pub HaveSame : List Held → List Held → Type 0
 HaveSame xs ys = (item : Held) → Contains xs item ↔ Contains ys item

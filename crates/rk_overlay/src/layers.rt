@@ -65,7 +65,7 @@ pub fn in_order<'a>(alloc: Global, newest: &Newest<'a>) -> Result<Vec<&'a Held>,
     Ok(lent)
 }
 
-// The items of the tree, as they stand there.
+// The items of the tree, in its order.
 fn values<'a>(alloc: Global, newest: &Newest<'a>) -> Result<Vec<&'a Held>, NoMemory>
     ensures values { IfOk result (λ lent. lent.items ≡ values newest.now) }
     ensures ordered { IsOrdered name_cmp newest.now }

@@ -4,7 +4,7 @@ ghost use Rattle.rk_overlay.specs.Newest.{IsBestBefore, is_of as is_of_lem, newe
 use rk_types::{Held, Key};
 
 /// The place, counted from 0, of the newest item of the record with this table and key: the one with the greatest
-/// version, and the first of several that have it. None where no item is of the record. A step for each item.
+/// version, and the first of several that have it. None if no item is of the record. A step for each item.
 pub fn newest(items: &[Held], table: u64, key: &Key) -> Option<usize>
     ensures place { IsBestBefore items.now table key.now (length items.now) result }
     ensures item { option_and_then (slice_get items.now) result ≡ newest_lem items.now table key.now }
@@ -16,7 +16,7 @@ pub fn newest(items: &[Held], table: u64, key: &Key) -> Option<usize>
     best
 }
 
-// The newest among the items up to this place, where `best` is the newest before it.
+// The newest among the items up to this place, if `best` is the newest before it.
 fn better(items: &[Held], table: u64, key: &Key, place: usize, best: Option<usize>) -> Option<usize>
     requires within { place < length items.now }
     requires best { IsBestBefore items.now table key.now place best }

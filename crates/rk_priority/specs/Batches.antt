@@ -1,4 +1,4 @@
--- What stands behind the reference once the borrow of a batch ends.
+-- What is behind the reference once the borrow of a batch ends.
 use Rattle.std.specs.Prelude.{◌≡◌, ⊤}
 use Rattle.std.specs.Borrow.{follows_so, MutBor, Fml}
 use mathlib.Core.Option.{none}

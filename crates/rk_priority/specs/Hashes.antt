@@ -17,7 +17,7 @@ no_hashes = record { resolved = []; outstanding = []; wanted = [] }
 abbrev pub all_hashes : Hashes → List ℕ
 all_hashes hashes = hashes.resolved ++ (hashes.outstanding ++ hashes.wanted)
 
--- a batch is small, and no hash stands in two parts, or twice in one
+-- a batch is small, and no hash is in two parts, or twice in one
 pub record AreApart (hashes : Hashes) : Type 0 where
   pub few : length hashes.outstanding ≤ BATCH_HASHES
   pub distinct : AllPairs (λ a b. a ≢ b) (all_hashes hashes)
@@ -38,7 +38,7 @@ is_waiting hashes = not (length hashes.outstanding == 0) || not (length hashes.w
 abbrev pub wanting : Hashes → ℕ → Hashes
 wanting hashes hash = if is_known hashes hash then hashes else record hashes { wanted = hashes.wanted ++ hash ∷ [] }
 
--- after a batch is asked for, by the batch that is outstanding: where there is none, the oldest wanted hashes become it
+-- after a batch is asked for, by the batch that is outstanding: if there is none, the oldest wanted hashes become it
 abbrev pub batched_by : Hashes → List ℕ → Hashes
 batched_by hashes [] = record { resolved = hashes.resolved; outstanding = take BATCH_HASHES hashes.wanted; wanted = drop BATCH_HASHES hashes.wanted }
 batched_by hashes (hash ∷ more) = hashes

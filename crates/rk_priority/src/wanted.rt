@@ -9,7 +9,7 @@ use std::marker::Model;
 /// The most hashes of a batch.
 pub const BATCH_HASHES: usize = 16;
 
-/// The hashes of keys whose records a tablet needs: wanted at first, outstanding once they stand in the batch that is
+/// The hashes of keys whose records a tablet needs: wanted at first, outstanding once they are in the batch that is
 /// asked for, and resolved once their records have come.
 #[derive(Drop)]
 pub struct Wanted {
@@ -57,7 +57,7 @@ impl Wanted {
         })
     }
 
-    /// Wants a hash, behind those that are wanted, and answers whether it was new; one that is wanted, outstanding or
+    /// Wants a hash, behind those that are wanted, and answers whether it was new; a hash that is wanted, outstanding or
     /// resolved changes nothing. After `NoMemory` nothing has changed. A step for each of the hashes.
     pub fn want(&mut self, hash: u64) -> Result<bool, NoMemory>
         ensures answer { IfOk result (λ new. new ≡ not (is_known self.old hash)) }
@@ -72,7 +72,7 @@ impl Wanted {
         Ok(true)
     }
 
-    /// The batch to ask for: the outstanding one, or where there is none the oldest 16 or fewer of the wanted hashes,
+    /// The batch to ask for: the outstanding one, or if there is none the oldest 16 or fewer of the wanted hashes,
     /// which are outstanding then. Without a wanted hash it is empty.
     pub fn next_batch(&mut self) -> &[u64]
         ensures batch { result.now ≡ (batched self.entry.now).outstanding }
@@ -125,7 +125,7 @@ impl Wanted {
         self.batch = 0;
     }
 
-    // Makes the oldest wanted hashes the batch, where none is outstanding.
+    // Makes the oldest wanted hashes the batch, if none is outstanding.
     fn open_batch(&mut self)
         ensures { self.new ≡ batched self.old }
     {

@@ -10,7 +10,7 @@ use std::alloc::Global;
 pub const BATCH_BYTES: u32 = 20_480;
 
 /// Duplicates of the live items of the range from the token on, in scan order, up to and with the first one at which
-/// their entries have [`BATCH_BYTES`], and the token behind them: `{1024, 0}` exactly where none is left. `NoMemory` may
+/// their entries have [`BATCH_BYTES`], and the token behind them: `{1024, 0}` exactly when none is left. `NoMemory` may
 /// come in place of the answer. One scan of the table, which has fewer than 2^32 items.
 pub fn batch<T: RecordTable>(
     alloc: Global,

@@ -51,7 +51,7 @@ impl Progress {
     }
 
     /// Whether all items of this bucket have arrived: the token is behind it. In the token's own bucket some items may
-    /// have arrived, which only the table tells.
+    /// have arrived, which only the table shows.
     pub fn passed_bucket(&self, bucket: u16) -> bool
         ensures { result ≡ nat_lt bucket self.now.bucket }
     {

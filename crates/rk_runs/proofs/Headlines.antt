@@ -26,8 +26,8 @@ use Rattle.rk_world.specs.declared.event.Event.TheVariants as events
 
 -- In every run of a new cluster, whatever is sent, lost, repeated or delayed and whichever masters crash while another one lives, each lane
 -- is sound, well formed and has room. So the journals of all lanes merge into one lawful history of one map that starts empty, and that
--- history is ordered with the sessions: each call that was acknowledged stands in it once, in its client's order, as its receipt says. What
--- counts of the applied logs of a row's lineage leaves just the records that the journal of its lane leaves; and where nothing is left to
+-- history is ordered with the sessions: each call that was acknowledged is in it once, in its client's order, as its receipt says. What
+-- counts of the applied logs of a row's lineage leaves just the records that the journal of its lane leaves; and if nothing is left to
 -- do, so does what is read back of what each backup stores.
 module _ (masters backups : ℕ) (list : List Occurrence) (few : masters ≤ MOST_MASTERS) (backed : 1 ≤ backups)
     (few_backups : backups ≤ MOST_BACKUPS) (run : IsRun (new_cluster masters backups) list) where
@@ -52,8 +52,8 @@ module _ (masters backups : ℕ) (list : List Occurrence) (few : masters ≤ MOS
       → Stands (lane_at (cluster_run (new_cluster masters backups) list) lane)
   all_stand = Rattle.rk_runs.proofs.history.Runs.all_stand masters backups few backed few_backups list run
 
--- A record of a journal stays for ever: whatever occurs, it stands at its place, of the same call, outcome and stamp, and is accepted once
--- it was. So no call that a client was told of is lost: what each receipt of a run tells stands in the journals at its end, whatever comes
+-- A record of a journal stays for ever: whatever occurs, it is at its place, of the same call, outcome and stamp, and is accepted once
+-- it was. So no acknowledged call is lost: what each receipt of a run states is in the journals at its end, whatever comes
 -- after it.
 pub records_stay : (cluster : Cluster) (list : List Occurrence) → RecordsStay cluster (cluster_run cluster list)
 records_stay = Rattle.rk_runs.proofs.history.Staying.records_stay
@@ -80,8 +80,8 @@ moved_tablets_are_finished masters backups lane list event called stepped row no
 
 -- ---- the duties of clients and of the coordinator
 
--- In every run of a new cluster, a client with an outstanding call sends one message on its turn in the lane of that call, where the turn
--- is not refused (`sends_in_run`): its session fits the lane, whatever became of earlier messages. Where the client was added in a lane,
+-- In every run of a new cluster, a client with an outstanding call sends one message on its turn in the lane of that call, if the turn
+-- is not refused (`sends_in_run`): its session fits the lane, whatever became of earlier messages. If the client was added in a lane,
 -- its turn there is refused only since a number of the lane or of the session is too great (`worn_in_run`).
 pub sends_in_run : (masters backups : ℕ) (list : List Occurrence) (lane client : ℕ) (call : Call) (visited : Visited)
     → masters ≤ MOST_MASTERS → 1 ≤ backups → backups ≤ MOST_BACKUPS → IsRun (new_cluster masters backups) list
@@ -99,7 +99,7 @@ pub worn_in_run : (masters backups : ℕ) (list : List Occurrence) (lane client 
 worn_in_run masters backups list lane client error few backed few_backups =
     Rattle.rk_runs.proofs.duties.Runs.worn_in_run masters backups few backed few_backups list lane client error
 
--- Who has a session was added in each lane. It is so in a new cluster, and stays so whatever occurs, where a client that joins, takes its
+-- Who has a session was added in each lane. It is so in a new cluster, and stays so whatever occurs, if a client that joins, takes its
 -- turn or takes an answer has a session or was added in each lane.
 
 -- a new cluster has no sessions
@@ -110,7 +110,7 @@ pub added_after : (cluster : Cluster) (occurrence : Occurrence) → ActsAdded cl
     → AreAdded (cluster_after cluster occurrence)
 added_after = Rattle.rk_runs.proofs.duties.Adding.added_after
 
--- No row is owned by a master that was noticed dead. It is so in a lane where nothing has happened, and stays so at each event, where each
+-- No row is owned by a master that was noticed dead. It is so in a lane where nothing has happened, and stays so at each event, if each
 -- master that was noticed has crashed, as in each lane that is well formed; and it stays so when a client takes its turn or an answer. So
 -- it is so in each lane of every run of a new cluster (`free_in_run`).
 pub new_free : (lane masters backups : ℕ) → NoDeadOwner (new_world lane masters backups).coordinator
@@ -156,8 +156,8 @@ module _ (w : World) (all : AllNoticed w) where
   pub accepted_noticed : (number : ℕ) (session : Session) → AllNoticed (world_visited w (accept w number session))
   accepted_noticed number session = accept_keeps AreNoticed w all number session
 
--- Where some row is not owned, the coordinator has something to say on its turn (`turn_says`), so that more messages were sent after it
--- (`unowned_sends`). Where no row is owned by a master that was noticed dead, and each one that has crashed was noticed, the coordinator
+-- If some row is not owned, the coordinator has something to say on its turn (`turn_says`), so that more messages were sent after it
+-- (`unowned_sends`). If no row is owned by a master that was noticed dead, and each master that has crashed was noticed, the coordinator
 -- sends on its turn unless each row is owned by a master that lives (`disowned_sends`). Its turn is refused only since a number of the lane
 -- is too great (`turn_refused`).
 pub turn_says : (coordinator : Coordinator) (row : Row) → Contains coordinator.rows row → is_owned row.phase ≡ false
@@ -178,7 +178,7 @@ pub turn_refused : (w : World) (called : Called) (error : StepError) → step w 
     → IsWorn w error
 turn_refused w called error = grind (arith, worn, stepped_by)
 
--- Whatever happens in a lane, no fewer messages were sent on its wire than before; and where more were, a message is on it then
+-- Whatever happens in a lane, no fewer messages were sent on its wire than before; and if more were, a message is on it then
 -- (`stepped_sends_no_fewer`, `asked_sends_no_fewer`, `answer_sends_no_fewer`). A wire that has a message has one still, unless one is
 -- forgotten (`stepped_message_stays`, `asked_message_stays`, `answer_message_stays`).
 pub stepped_sends_no_fewer : (w : World) (event : Event) (called : Called)

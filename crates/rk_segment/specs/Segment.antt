@@ -14,7 +14,7 @@ pub record NumberedBytes : Type 0 where
 abbrev pub appended : NumberedBytes → List ℕ → NumberedBytes
 appended segment more = record segment { bytes = segment.bytes ++ more }
 
--- why these bytes have no room in the segment, where they have none
+-- why these bytes have no room in the segment, if they have none
 abbrev pub overflow : NumberedBytes → List ℕ → Option Full
 overflow segment more =
     if nat_lt SEGMENT_BYTES (length segment.bytes + length more)

@@ -44,7 +44,7 @@ impl Segment {
         })
     }
 
-    /// Puts the bytes, fewer than 2^32, at the end, which takes no memory. `Full` comes exactly where the segment would
+    /// Puts the bytes, fewer than 2^32, at the end, which takes no memory. `Full` comes exactly when the segment would
     /// then have more than [`SEGMENT_BYTES`], and nothing has changed after it.
     pub fn append(&mut self, bytes: &[u8]) -> Result<(), Full>
         requires { length bytes.now < 2 ^ 32 }

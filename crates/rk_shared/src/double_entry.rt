@@ -47,7 +47,7 @@ impl<L: Ledger, M: Ledger> DoubleEntry<L, M> {
         clients.add(client, 1);
     }
 
-    /// Tells of shares that have all parts of their ledgers that their amounts are equal, and changes nothing.
+    /// Shows, of shares that have all parts of their ledgers, that their amounts are equal, and changes nothing.
     pub fn balance(&mut self, lane: &mut Share<L>, client: &mut Share<M>)
         requires lane { lane.old.parts ≡ L.parts }
         requires client { client.old.parts ≡ M.parts }

@@ -23,7 +23,7 @@ pub trait Roster: Ledger {
     /// How often the replicas had failed at the start, by lane and by the place of the backup in its lane, counted from 0.
     ghost counts: { ℕ → ℕ → Option ℕ };
 
-    /// What is taken for granted of the replicas at the start, as that each of them tells what it stores: where it is so, lanes are sound.
+    /// What is taken for granted of the replicas at the start, as that each of them reports what it stores: if it is so, lanes are sound.
     ghost tells: { Type 0 };
 }
 

@@ -52,7 +52,7 @@ impl<L: Ledger, M: Ledger, A: Ledger, B: Ledger, N: Ledger> Tally<L, M, A, B, N>
         self.asked.add(lane, client);
     }
 
-    /// Tells of shares that have all parts of their ledgers that what lanes accepted is what clients got, and what was asked of lanes is
+    /// Shows, of shares that have all parts of their ledgers, that what lanes accepted is what clients got, and what was asked of lanes is
     /// what clients counted; and that the lanes are numbered from 0 to 7. It changes nothing.
     pub fn balance(
         &mut self,

@@ -23,7 +23,7 @@ pub replay_on_a_master : (master : Master) (number worker : ℕ) (tablet : Table
     ≡ master_with master number tablet worker (side_replayed master.records (slice_index_or tablet.pulling.sides worker []) items)
 replay_on_a_master = Rattle.rk_side_log.proofs.Masters.replay_is
 
--- The side segments that items fill have all of them, in order. None is empty; none is too long, where the items are
+-- The side segments that items fill have all of them, in order. None is empty; none is too long, if the items are
 -- lawful; and two that follow one another have more bytes together than a segment may have.
 pub side_segments_have_all_items : (items : List Held) → flat_map (λ segment. segment) (cut_items items) ≡ items
 side_segments_have_all_items items = whole_after [] items

@@ -1,4 +1,4 @@
--- What the side logs of a target stand for, and how its parts agree.
+-- What the side logs of a target represent, and how its parts agree.
 use Rattle.std.specs.Prelude.{◌≡◌, ◌≤◌, List, [], vec_capacity}
 use Rattle.rk_types.specs.declared.held.Held.{Held}
 use Rattle.rk_side_log.specs.Sides.{items_of_each, made_in}

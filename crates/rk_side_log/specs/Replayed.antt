@@ -1,4 +1,4 @@
--- What the records and the items of a worker become where items are replayed.
+-- What the records and the items of a worker become when items are replayed.
 use Rattle.std.specs.Prelude.{ℕ, List, [], ◌∷◌, ◌++◌, fold, if◌then◌else◌, slice_set}
 use Rattle.rk_types.specs.declared.held.Held.{Held}
 use Rattle.rk_table.specs.Items.{found, is_newer, with_newer}
@@ -11,7 +11,7 @@ pub record Replayed : Type 0 where
   pub records : List Held
   pub items : List Held
 
--- an item goes to both where it is newer than what the records have of its key
+-- an item goes to both if it is newer than what the records have of its key
 abbrev pub with_replayed : Replayed → Held → Replayed
 with_replayed now item =
     if is_newer item (found item.table item.key now.records)

@@ -26,12 +26,12 @@ with_last side item = record side { items = side.items ++ item ∷ [] }
 abbrev pub segments_of : List Held → ℕ
 segments_of items = length (cut_items items)
 
--- how many more bytes the last of these segments takes, none where there is no segment
+-- how many more bytes the last of these segments takes, none if there is no segment
 abbrev pub room_in : List (List ℕ) → ℕ
 room_in [] = 0
 room_in (bytes ∷ more) = SEGMENT_BYTES - length (last_of (bytes ∷ more))
 
--- how many more segments items begin, behind a last one that takes so many bytes
+-- how many more segments items begin, behind a last segment that takes so many bytes
 abbrev pub begun : ℕ → List Held → ℕ
 begun room [] = 0
 begun room (item ∷ items) =
@@ -39,11 +39,11 @@ begun room (item ∷ items) =
     then begun (room - spelled_of item) items
     else suc (begun (SEGMENT_BYTES - spelled_of item) items)
 
--- whether bytes fit into the last of the used segments, where one is used
+-- whether bytes fit into the last of the used segments, if one is used
 abbrev pub fits_last : List (List ℕ) → ℕ → List ℕ → Bool
 fits_last segments used bytes = nat_lt 0 used && nat_le (length (slice_index_or segments (used - 1) []) + length bytes) SEGMENT_BYTES
 
--- the place of the segment that takes bytes: the last one that is used where they fit, and else the first one behind it
+-- the place of the segment that takes bytes: the last used one if they fit, and else the first one behind it
 abbrev pub place_for : List (List ℕ) → ℕ → List ℕ → ℕ
 place_for segments used bytes = if fits_last segments used bytes then used - 1 else used
 

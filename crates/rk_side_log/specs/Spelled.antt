@@ -23,7 +23,7 @@ bytes_in segments = map (λ segment. segment.bytes) segments
 abbrev pub items_read : List (List ℕ) → List Held
 items_read segments = items_of (spelled_in segments)
 
--- the item that these bytes spell; where they spell none, one of zeros
+-- the item that these bytes spell; if they spell none, one of zeros
 unfoldable pub item_read : List ℕ → Held
 item_read bytes =
     slice_index_or (items_read (bytes ∷ [])) 0 (record { table = 0; version = 0; client = 0; seq = 0; key = []; value = None })

@@ -51,7 +51,7 @@ pub(crate) fn replay_all<T: RecordTable>(
     tally
 }
 
-// Replays an item, and answers how many bytes its entry takes where it is newer than what the table has of its key.
+// Replays an item, and answers how many bytes its entry takes if it is newer than what the table has of its key.
 fn replay_one<T: RecordTable>(
     item: Held,
     table: &mut T,

@@ -13,7 +13,7 @@ use rk_types::{Held, NoMemory, SEGMENT_BYTES};
 use std::alloc::Global;
 use std::marker::Model;
 
-// The number that a segment is made with. It gets another one where it becomes part of a log.
+// The number that a segment is made with. It gets another one when it becomes part of a log.
 const NO_NUMBER: u32 = 0;
 
 /// The side log of one worker. Contracts see its items, and how many segments are made for it.
@@ -132,7 +132,7 @@ fn duplicate(alloc: Global, segment: &Segment) -> Result<Segment, NoMemory>
     Ok(duplicate)
 }
 
-// How many more bytes the last of the first so many segments takes, none where there is none.
+// How many more bytes the last of the first so many segments takes, none if there is none.
 fn room_behind(segments: &[Segment], used: usize) -> u32
     requires { used ≤ length segments.now }
     ensures { result ≡ room_in (take used (bytes_in segments.now)) }
@@ -143,7 +143,7 @@ fn room_behind(segments: &[Segment], used: usize) -> u32
     SEGMENT_BYTES - segments[used - 1].length()
 }
 
-// How many segments items begin, behind one that takes so many bytes more. A step for each item.
+// How many segments items begin, behind a segment that takes so many bytes more. A step for each item.
 fn begun_by(items: &[Held], room: u32) -> usize
     ensures count { result ≡ begun room items.now }
     ensures few { result ≤ length items.now }
@@ -175,7 +175,7 @@ fn make_segments(segments: &mut Vec<Segment>, count: usize) -> Result<(), NoMemo
     Ok(())
 }
 
-// The place of the segment that takes these bytes: the last one that is used where they fit, and else the first one
+// The place of the segment that takes these bytes: the last used one if they fit, and else the first one
 // behind it.
 fn place_for(segments: &[Segment], used: usize, bytes: &[u8]) -> usize
     requires used { used ≤ length segments.now }

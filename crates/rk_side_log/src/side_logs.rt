@@ -27,7 +27,7 @@ pub struct SideLogs {
     bytes: u64,
     // No segments, and room for all those of the workers.
     sealed: Vec<Segment>,
-    // Where an entry is spelled before it goes into a segment; its memory is used again.
+    // The buffer in which an entry is spelled before it goes into a segment; its memory is used again.
     spelling: Vec<u8>,
 }
 
@@ -91,7 +91,7 @@ impl SideLogs {
         self.bytes
     }
 
-    /// Replays items by a worker, one after the other: one that is newer than what the table has of its key goes into the
+    /// Replays items by a worker, one after the other: an item that is newer than what the table has of its key goes into the
     /// table and to the end of the worker's side log, and any other nowhere. It answers how many were newer. There are
     /// fewer than 2^32 items, and fewer than 2^63 bytes in the side logs. `NoMemory` comes before the first change, and
     /// nothing has changed after it; the memory of whole segments is taken for all that the items could begin, and kept.

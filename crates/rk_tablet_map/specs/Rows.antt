@@ -59,7 +59,7 @@ add_fault rows row =
 abbrev pub is_split : Range → ℕ → Bool
 is_split range at = nat_lt range.first at && nat_le at range.last
 
--- why a split of this row is refused, where the new number may be there already
+-- why a split of this row is refused, when the new number may be there already
 abbrev pub cut_fault : Option Row → Option Row → ℕ → ℕ → Option MapError
 cut_fault None taken at new = Some NoTablet
 cut_fault (Some row) (Some taken) at new = Some (Taken new)

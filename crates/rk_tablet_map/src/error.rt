@@ -19,7 +19,7 @@ pub enum MapError {
     /// A tablet with this number is there already.
     #[error("tablet {0} is there already")]
     Taken(u32),
-    /// The range meets one that is there.
+    /// The range meets that of another tablet.
     #[error("the range meets that of another tablet")]
     Overlap,
 }

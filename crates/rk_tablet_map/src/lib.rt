@@ -1,8 +1,8 @@
 //! The tablet map: which tablet has which key hashes, and the term and the phase of each tablet.
 //!
-//! It stands on `rk_types`. What it promises: contracts see a [`TabletMap`] as its rows by rising tablet; the ranges of
+//! It builds on `rk_types`. What it promises: contracts see a [`TabletMap`] as its rows by rising tablet; the ranges of
 //! one table never meet; each change of the rows is that of its definition, a split leaves the union of the ranges as it
-//! was, and a refusal tells exactly what is wrong and changes nothing; to locate a hash takes no memory.
+//! was, and a refusal says exactly what is wrong and changes nothing; to locate a hash takes no memory.
 #![tactic(auto)]
 
 pub use error::MapError;

@@ -39,7 +39,7 @@ impl TabletMap {
         }
     }
 
-    /// Adds a row, in its place by number. `Taken` comes where its number is there, else `Overlap` where its range meets
+    /// Adds a row, in its place by number. `Taken` comes if its number is there, else `Overlap` if its range meets
     /// that of a row. After an error, `NoMemory` too, nothing has changed, and the row is dropped. A step for each row.
     pub fn add(&mut self, row: Row) -> Result<(), MapError>
         ensures lawful { OnOk result (add_fault self.old row ≡ None) }
@@ -58,7 +58,7 @@ impl TabletMap {
         Ok(())
     }
 
-    /// The number of the tablet that has this hash of the table. The only error is `NoTablet`, where none has it. A step
+    /// The number of the tablet that has this hash of the table. The only error is `NoTablet`, if none has it. A step
     /// for each row.
     pub fn locate(&self, table: u64, hash: u64) -> Result<u32, MapError>
         ensures found { IfOk result (λ tablet. tablet_of self.now table hash ≡ Some tablet) }
@@ -72,7 +72,7 @@ impl TabletMap {
     }
 
     /// Splits a tablet at a hash: the hashes from it on become the tablet `new`, with the same term and phase. `NoTablet`
-    /// comes where the tablet is unknown, else `Taken` where `new` is there, else `BadSplit` where the hash is not above
+    /// comes if the tablet is unknown, else `Taken` if `new` is there, else `BadSplit` if the hash is not above
     /// the first or is above the last. After an error, `NoMemory` too, nothing has changed. A step for each row.
     pub fn split(&mut self, tablet: u32, at: u64, new: u32) -> Result<(), MapError>
         ensures lawful { OnOk result (split_fault self.old tablet at new ≡ None) }
@@ -104,14 +104,14 @@ impl TabletMap {
         Ok(())
     }
 
-    /// The row of this tablet, where there is one. A step for each row.
+    /// The row of this tablet, if there is one. A step for each row.
     pub fn row(&self, tablet: u32) -> Option<&Row>
         ensures { option_copied result ≡ row_of self.now tablet }
     {
         with_number(self.rows.as_slice(), tablet)
     }
 
-    /// The row whose range has this hash of the table; none where no tablet has it. A step for each row.
+    /// The row whose range has this hash of the table; none if no tablet has it. A step for each row.
     pub fn row_with(&self, table: u64, hash: u64) -> Option<&Row>
         ensures { option_copied result ≡ row_with self.now table hash }
     {
@@ -127,7 +127,7 @@ impl TabletMap {
     }
 
     /// Gives the row of this tablet this term and phase, and changes nothing else. It answers whether there is such a
-    /// row; where there is none, nothing has changed, and the phase is dropped.
+    /// row; if there is none, nothing has changed, and the phase is dropped.
     pub fn change(&mut self, tablet: u32, term: u64, phase: Phase) -> bool
         ensures answer { result ≡ is_some (row_of self.old tablet) }
         ensures after { self.new ≡ changed_rows self.old tablet term phase }
@@ -167,7 +167,7 @@ fn index_of(rows: &[Row], tablet: u32) -> Option<usize>
     rows.iter().position(|row| row.tablet == tablet)
 }
 
-// Where the row of this tablet stands or would stand.
+// Where the row of this tablet is or would be.
 fn place_of(rows: &[Row], tablet: u32) -> usize
     ensures place { result ≡ position_or_len (λ row. nat_le tablet row.tablet) rows.now }
     ensures within { result ≤ length rows.now }

@@ -7,7 +7,7 @@ use Rattle.rk_transfer.specs.declared.role.Role.{Role}
 use Rattle.rk_transfer.specs.declared.role.Role.TheVariants.{Absent, Serving, Closing, Frozen, Wanting, Receiving, Joining, Rebuilding}
 
 -- A move, with what it is handed. Here each says which role it turns into which; when a master makes it, and what it does beside,
--- stands in the files of rk_world/specs that are named.
+-- is in the files of rk_world/specs that are named.
 --
 --   Prepare, Close, Grant, Own, Release: on the order of the coordinator that is called so (Handovers)
 --   Freeze: once none of the tablet's writes waits for its entry to be committed, which is at the Close itself or when the backups
@@ -27,7 +27,7 @@ pub data Move : Type 0 where
   Own : (term applied : ℕ) → Move
   Release : (term : ℕ) → Move
 
--- the role after a close, where the role before takes one
+-- the role after a close, if the role before takes one
 abbrev pub role_closed : Role → Option Role
 role_closed Serving = Some Closing
 role_closed (Joining entry) = Some Closing
@@ -55,7 +55,7 @@ abbrev pub role_carried : ℕ → Role → Option Role
 role_carried entry (Rebuilding from None) = Some (Rebuilding from (Some entry))
 role_carried _ _ = None
 
--- the role after the owner is told: the closing entry stands below what is applied
+-- the role after an Own: the closing entry is below what is applied
 abbrev pub role_owned : ℕ → Role → Option Role
 role_owned applied (Joining (Some entry)) = if nat_lt entry applied then Some Serving else None
 role_owned applied (Rebuilding from (Some entry)) = if nat_lt entry applied then Some Serving else None
@@ -66,7 +66,7 @@ abbrev pub role_released : Role → Option Role
 role_released Frozen = Some Absent
 role_released _ = None
 
--- the handover in a role, where there is one
+-- the handover in a role, if there is one
 abbrev pub in_role : Handover → Option Role → Option Handover
 in_role handover role = option_map (λ r. record handover { role = r }) role
 
@@ -103,7 +103,7 @@ granted handover term counter =
     then in_role (record handover { counter = counter }) (role_granted handover.role)
     else None
 
--- a join tells the place of the closing entry, or that it is not in the log yet
+-- a join gives the place of the closing entry, or that it is not in the log yet
 abbrev pub joined : Handover → ℕ → Option ℕ → Option Handover
 joined handover term entry = if handover.term == term then in_role handover (role_joined entry handover.role) else None
 
@@ -114,7 +114,7 @@ carried handover term entry counter =
     then in_role (record handover { counter = counter }) (role_carried entry handover.role)
     else None
 
--- the owner is told with how much of its log is applied
+-- an Own comes with how much of the log is applied
 abbrev pub owned : Handover → ℕ → ℕ → Option Handover
 owned handover term applied = if handover.term == term then in_role handover (role_owned applied handover.role) else None
 
@@ -122,7 +122,7 @@ owned handover term applied = if handover.term == term then in_role handover (ro
 abbrev pub released : Handover → ℕ → Option Handover
 released handover term = if handover.term == term then in_role handover (role_released handover.role) else None
 
--- the handover after a move, or none where the move does not apply
+-- the handover after a move, or none if the move does not apply
 abbrev pub moved : Handover → Move → Option Handover
 moved handover (Prepare term range from) = prepared handover term range from
 moved handover (Close term) = closed handover term

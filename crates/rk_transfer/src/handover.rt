@@ -4,10 +4,10 @@ ghost use Rattle.rk_transfer.specs.Handover.{begun, prepared, closed, frozen, gr
 use crate::role::Role;
 use rk_types::Range;
 
-/// A master's side of the handover of one tablet: its role, the term and the range that it was told last, and the
+/// A master's side of the handover of one tablet: its role, the term and the range that it was given last, and the
 /// counter that gives the next version. Places count the entries of the master's log from 0.
 ///
-/// Each move answers whether it applied. Where it did not, nothing has changed.
+/// Each move answers whether it applied. If it did not, nothing has changed.
 #[derive(Clone, Copy, PartialEq, Eq)]
 pub struct Handover {
     pub role: Role,
@@ -45,7 +45,7 @@ impl Handover {
         true
     }
 
-    /// Tells that no entry of the tablet waits to be applied. It applies to `Closing`, at its own term. The role is
+    /// Reports that no entry of the tablet waits to be applied. It applies to `Closing`, at its own term. The role is
     /// `Frozen` then.
     pub fn freeze(&mut self, term: u64) -> bool
         ensures answer { result ≡ is_some (frozen self.old term) }
@@ -72,7 +72,7 @@ impl Handover {
         true
     }
 
-    /// Tells that all has been fetched, and the place of the closing entry, where that is in the log. It applies at its
+    /// Reports that all has been fetched, and the place of the closing entry, if that is in the log. It applies at its
     /// own term to `Receiving`, and with a place to `Joining` that has none. The role is `Joining` with that entry then.
     pub fn join(&mut self, term: u64, entry: Option<u64>) -> bool
         ensures answer { result ≡ is_some (joined self.old term entry) }
@@ -100,7 +100,7 @@ impl Handover {
         self.begin(term, range, Role::Rebuilding { from, entry: None })
     }
 
-    /// Tells the place of the entry that closes a rebuild, and the counter to go on from. It applies to `Rebuilding`
+    /// Gives the place of the entry that closes a rebuild, and the counter to go on from. It applies to `Rebuilding`
     /// that has no such place, at its own term. The place and the counter are those given then.
     pub fn carry(&mut self, term: u64, entry: u64, counter: u64) -> bool
         ensures answer { result ≡ is_some (carried self.old term entry counter) }
@@ -120,7 +120,7 @@ impl Handover {
         true
     }
 
-    /// Tells that the tablet is the master's own; `applied` is how many entries of its log are applied. It applies
+    /// Reports that the tablet is the master's own; `applied` is how many entries of its log are applied. It applies
     /// to `Joining` and `Rebuilding` whose closing entry is among those, at its own term. The role is `Serving` then.
     pub fn own(&mut self, term: u64, applied: u64) -> bool
         ensures answer { result ≡ is_some (owned self.old term applied) }
@@ -141,7 +141,7 @@ impl Handover {
         true
     }
 
-    /// Tells that nobody will ask for what the master has of the tablet any more. It applies to `Frozen`, at its own
+    /// Reports that nobody will ask for what the master has of the tablet any more. It applies to `Frozen`, at its own
     /// term. The role is `Absent` then.
     pub fn release(&mut self, term: u64) -> bool
         ensures answer { result ≡ is_some (released self.old term) }

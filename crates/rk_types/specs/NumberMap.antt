@@ -14,7 +14,7 @@ NumberMap X = List (ℕ × X)
 abbrev pub get : {X : Type 0} → NumberMap X → ℕ → Option X
 get map number = find nat_cmp number map
 
--- the thing under a number, and this one where there is none
+-- the thing under a number, and this one if there is none
 abbrev pub get_or : {X : Type 0} → X → NumberMap X → ℕ → X
 get_or other map number = unwrap_or (get map number) other
 
@@ -34,7 +34,7 @@ changed_each change things = map (λ entry. (entry.0, change entry.0 entry.1)) t
 abbrev pub numbers : {X : Type 0} → NumberMap X → List ℕ
 numbers things = map (λ entry. entry.0) things
 
--- the numbers rise, so each of them stands once
+-- the numbers rise, so each of them is there once
 abbrev pub IsInOrder : {X : Type 0} → NumberMap X → Type 0
 IsInOrder map = T (is_sorted nat_cmp map)
 

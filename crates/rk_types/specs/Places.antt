@@ -1,9 +1,9 @@
--- Where a number stands in a map by rising number.
+-- Where a number is in a map by rising number.
 use Rattle.std.specs.Prelude.{◌≡◌, ℕ, ◌<◌, ◌≤◌, List, length, slice_index_or}
 use Rattle.rk_types.specs.NumberMap.{NumberMap}
 
 module _ {X : Type 0} where
-  -- the entry of this number stands at this place
+  -- the entry of this number is at this place
   pub record IsAt (number : ℕ) (entries : NumberMap X) (place : ℕ) : Type 0 where
     pub within : place < length entries
     pub same : (d : ℕ × X) → (slice_index_or entries place d).0 ≡ number

@@ -10,7 +10,7 @@ pub enum Op {
     Get,
     /// Write this value.
     Put(Value),
-    /// Write this value where the record has this version, 0 for a record that is not there.
+    /// Write this value if the record has this version, 0 for a record that is not there.
     CondPut(u64, Value),
     /// Remove the record.
     Delete,
@@ -37,7 +37,7 @@ pub enum Outcome {
     Written(u64),
     /// The record was removed, and this version marks it.
     Deleted(u64),
-    /// The record has this version, 0 where it is not there, and not the one that was asked for.
+    /// The record has this version, 0 if it is not there, and not the one that was asked for.
     Mismatch(u64),
 }
 

@@ -7,7 +7,7 @@ pub const LANES: u8 = 8;
 /// How many buckets a lane has.
 pub const BUCKETS: u16 = 1024;
 
-/// Where the hash of no bytes stands.
+/// The hash of no bytes.
 pub const HASH_START: u64 = 14_695_981_039_346_656_037;
 
 /// What each byte multiplies the hash by.

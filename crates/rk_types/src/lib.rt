@@ -1,9 +1,9 @@
 //! The words that every crate of the project shares: keys, values, calls, outcomes, log items, nodes and lineages.
 //!
-//! It stands on std alone. What it promises: a [`Key`] and a [`Value`] are text within their limits, and a refusal
+//! It builds on std alone. What it promises: a [`Key`] and a [`Value`] are text within their limits, and a refusal
 //! says exactly what is wrong; [`hash`], [`lane_of`] and [`bucket_of`] are the numbers of their definitions; a
 //! duplicate equals what it was made from. What holds keys and values is plain public data, which contracts see as it
-//! is written here, with the list of bytes where a key or a value stands.
+//! is written here, with the list of bytes in place of a key or a value.
 #![tactic(auto)]
 
 pub use call::{Answer, Call, End, Ended, Op, Outcome};

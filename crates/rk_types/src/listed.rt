@@ -28,7 +28,7 @@ impl<T> Listed<T> {
         }
     }
 
-    /// The list of no items, which takes no memory. What is put into it takes its memory where this list does.
+    /// The list of no items, which takes no memory. What is put into it takes its memory from the allocator of this list.
     pub fn empty_like(&self) -> Listed<T>
         ensures { result ≡ [] }
     {

@@ -1,7 +1,7 @@
 use std::alloc::{AllocError, AllocFailed};
 use thiserror::Error;
 
-/// Memory ran out. No contract ties it to a cause: it may stand in place of any answer of a call that takes memory.
+/// Memory ran out. No contract ties it to a cause: it may come in place of any answer of a call that takes memory.
 #[derive(Clone, Copy, Debug, PartialEq, Eq, Error)]
 #[error("out of memory")]
 pub struct NoMemory;

@@ -45,7 +45,7 @@ impl<V> Numbered<V> {
         self.values.get(&number)
     }
 
-    /// Puts a value under this number; one that was there is dropped. After `NoMemory` the values are as they were,
+    /// Puts a value under this number; a value that was there is dropped. After `NoMemory` the values are as they were,
     /// and the new one is dropped. One search.
     pub fn insert(&mut self, number: u64, value: V) -> Result<(), NoMemory>
     where
@@ -82,7 +82,7 @@ impl<V> Numbered<V> {
         self.values.iter()
     }
 
-    /// The number at a place, where the numbers rise and places count from 0. A step for each number up to there.
+    /// The number at a place; the numbers rise, and places count from 0. A step for each number up to there.
     pub fn number_at(&self, place: usize) -> Option<u64>
         ensures { result ≡ slice_get (map.numbers self.now) place }
     {

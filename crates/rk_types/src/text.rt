@@ -85,7 +85,7 @@ impl Model for Key {
 }
 
 impl Key {
-    /// The key with these bytes. `Length` tells how many there are where they are too few or too many, and else
+    /// The key with these bytes. `Length` gives how many there are if they are too few or too many, and else
     /// `Byte` the first place of a byte that is no printed character.
     pub fn new(alloc: Global, bytes: &[u8]) -> Result<Key, TextError>
         ensures key { IfOk result (λ key. key ≡ bytes.now) }
@@ -133,7 +133,7 @@ impl Model for Value {
 }
 
 impl Value {
-    /// The value with these bytes. `Length` tells how many there are where they are too many, and else `Byte` the
+    /// The value with these bytes. `Length` gives how many there are if they are too many, and else `Byte` the
     /// first place of a byte that is no printed character.
     pub fn new(alloc: Global, bytes: &[u8]) -> Result<Value, TextError>
         ensures value { IfOk result (λ value. value ≡ bytes.now) }
@@ -164,7 +164,7 @@ impl Value {
     }
 }
 
-// No derive, so that to drop a key is a call in proofs, and no cases of where its bytes stand.
+// No derive, so that to drop a key is a call in proofs, and no cases of where its bytes are.
 impl Drop for Key {
     fn drop(self) {
         let Key { bytes: _ } = self;
@@ -192,7 +192,7 @@ impl Eq for Key {
     ghost laws = { Prim.search (comparing, rules) };
 }
 
-// No derive, so that to drop a value is a call in proofs, and no cases of where its bytes stand.
+// No derive, so that to drop a value is a call in proofs, and no cases of where its bytes are.
 impl Drop for Value {
     fn drop(self) {
         let Value { bytes: _ } = self;

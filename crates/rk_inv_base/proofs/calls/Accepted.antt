@@ -1,4 +1,4 @@
--- A lane stays sound when the record of a client's last call is accepted, where no record of it was.
+-- A lane stays sound when the record of a client's last call is accepted, if no record of it was.
 use Rattle.rk_inv_base.proofs.Words.{◌≡◌, ℕ, true, List, ◌++◌, Option, Some, sym, ap, ◌∙◌, subst, ⊎_elim, inl, inr, arith, slice_get}
 use Rattle.rk_inv_base.proofs.Words.{slice_set, IfSome, Contains, All-weaker, slice_get-get_or, slice_get_within, get_or_from_slice_get}
 use Rattle.rk_inv_base.proofs.Words.{hash_of, Call, Ended, Placed, Range, is_mutation, lane_of_key, AreOneMutation, Entry, is_covered}

@@ -1,4 +1,4 @@
--- A lane stays sound when a client asks a call, where its last one, if any, is older and accepted: nothing of the client is staged then.
+-- A lane stays sound when a client whose last call, if any, is older and accepted asks a call: nothing of the client is staged then.
 use Rattle.rk_inv_base.proofs.Words.{◌≡◌, ℕ, ◌<◌, true, List, [], ◌∷◌, ◌++◌, Option, Some, refl, sym, ◌∙◌, subst, inr, arith, IfSome}
 use Rattle.rk_inv_base.proofs.Words.{unwrap_or, All, length, All-head, All-tail, All-weaker, list_any_at, get_other, get_same, Call, Range}
 use Rattle.rk_inv_base.proofs.Words.{live_after, Entry, Row, Request, base_map, item_end, items_of, refusal_end, Ledger, asked_by}

@@ -1,4 +1,4 @@
--- A journal with more records behind it: what was known, asked, accepted or told by it still is.
+-- A journal with more records behind it: what was known, asked, accepted or stated by it still is.
 use Rattle.rk_inv_base.proofs.Words.{arith, ◌≡◌, ℕ, ◌<◌, List, [], ◌∷◌, ◌++◌, Option, Some, ⊎_elim, inl, inr, ◌⊎◌, length, slice_get}
 use Rattle.rk_inv_base.proofs.Words.{Contains, Contains-append_left, Call, Ended, Placed, Node, IsRisingAbove, Reply, Body, Base, ends_told}
 use Rattle.rk_inv_base.proofs.Words.{LastCall, IsAccepted, IsRequest, RequestSays, WasAsked, IsKnown, IsRecorded, Says, IsRecordAt, Outcome}

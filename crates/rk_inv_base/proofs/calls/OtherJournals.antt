@@ -1,4 +1,4 @@
--- What is said of calls by a journal is said by another one that has an accepted record of each accepted call, and each record at its place.
+-- What a journal says of calls is said by another journal that has an accepted record of each accepted call, and each record at its place.
 use Rattle.rk_inv_base.proofs.Words.{arith, ℕ, List, Option, Call, Outcome, Placed, Node, Reply, Request, Body, call_of, LastCall}
 use Rattle.rk_inv_base.proofs.Words.{IsAccepted, IsRequest, RequestFits, RequestSays, WasAsked, IsRecordAt, Says}
 use Rattle.rk_types.specs.declared.node.Node.TheVariants as nodes

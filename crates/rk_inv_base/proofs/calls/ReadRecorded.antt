@@ -1,4 +1,4 @@
--- A lane stays sound when a read gets its record, which tells what the journal leaves and changes nothing of it.
+-- A lane stays sound when a read gets its record, which gives what the journal leaves and changes nothing of it.
 use Rattle.rk_inv_base.proofs.Words.{◌≡◌, ℕ, true, false, List, [], ◌∷◌, ◌++◌, Option, Some, None, sym, ap, ◌∙◌, subst, ⊎_elim, arith}
 use Rattle.rk_inv_base.proofs.Words.{slice_get, IfSome, length, All, All-weaker, All-contains, All-push, list_any-append, slice_get-get_or}
 use Rattle.rk_inv_base.proofs.Words.{slice_get_within, get_or_from_slice_get, hash_of, Call, Ended, Outcome, Placed, Range, IsLegal-append}

@@ -1,4 +1,4 @@
--- The part Rebuilds where the entry of a call is appended.
+-- The part Rebuilds when the entry of a call is appended.
 use Rattle.rk_inv_base.proofs.Words.{arith, ◌≡◌, ℕ, Bool, true, List, Contains, ne_eqb, cond-false, cond-true, All-contains, Ended, Held}
 use Rattle.rk_inv_base.proofs.Words.{Member, Segments, Entry, Completions, Handover, Role, Rebuilding, Row, Log, known_of, EntryEnd, Gather}
 use Rattle.rk_inv_base.proofs.Words.{is_member, own_place, Written, member_material, Mark, stored_of, FormerMember, Holds, bond_of, post_of}

@@ -1,4 +1,4 @@
--- Records once one more item was put, which stays where nothing newer of its key is there; and what stands in a scan of entries.
+-- Records once one more item was put, which stays if nothing newer of its key is there; and what is in a scan of entries.
 use Rattle.rk_inv_base.proofs.Words.{◌≡◌, ℕ, ltb, Bool, true, false, cond, List, [], ◌∷◌, Some, refl, sym, ap, ◌∙◌, subst, ◌⊎◌, inl, inr}
 use Rattle.rk_inv_base.proofs.Words.{⊎_elim, arith, filter, fold, is_some, All, Contains, flat_map, is_lt, ltb-true, ordering_reverse}
 use Rattle.rk_inv_base.proofs.Words.{cases_Bool, cond-true, cond-false, false≢true, All-append, All-contains, All-contains_itself, All-cons}

@@ -1,5 +1,5 @@
--- Journals whose records are the same but for whether they are accepted, where accepted ones stay so: they leave the same map, are as
--- lawful, and tell the same ends.
+-- Journals whose records are the same but for whether they are accepted, if accepted ones stay so: they leave the same map, are as
+-- lawful, and give the same ends.
 use Rattle.rk_inv_base.proofs.Words.{arith, ◌≡◌, ℕ, zero, suc, ◌<◌, true, eqb, List, [], ◌∷◌, ◌++◌, Some, refl, sym, ap, ◌∙◌, subst, ⊎_elim}
 use Rattle.rk_inv_base.proofs.Words.{inl, inr, ◌⊎◌, slice_get, slice_set, All, All-head, All-tail, All-cons, ⊤, Call, Ended, Placed}
 use Rattle.rk_inv_base.proofs.Words.{IsLegal, Map, map_after, map_with, Allowed, IsRisingAbove, is_mutation, outcome_of, as_accepted}

@@ -1,4 +1,4 @@
--- What is applied of a log stands in it.
+-- What is applied of a log is in it.
 use Rattle.rk_inv_base.proofs.Words.{ℕ, ◌≤◌, List, length, arith, prefix_len-le-length, length-ends, ends, Log, is_held, Written, IsLog}
 
 -- what is applied stands in the log

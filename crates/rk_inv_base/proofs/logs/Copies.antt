@@ -1,5 +1,5 @@
--- The law of copies: of what backups store, and are known to store, rows and messages speak only where the log of a dead master is read. So a
--- view stays sound where backups store more, and dead masters knew as much of it.
+-- The law of copies: of what backups store, and are known to store, rows and messages speak only when the log of a dead master is read. So
+-- a view stays sound when backups store more, and dead masters knew as much of it.
 use Rattle.rk_inv_base.proofs.Words.{◌≡◌, ℕ, ◌≤◌, Bool, true, false, List, [], ◌∷◌, ◌++◌, length, map, sym, ap, ◌∙◌, subst, arith}
 use Rattle.rk_inv_base.proofs.Words.{length-append, ◌==◌, not, nat_le, slice_index_or, take, All, Contains, append-nil, eq-eqb, le-leb}
 use Rattle.rk_inv_base.proofs.Words.{leb-true, refl, Some, ◌<◌, All-cons, All-filter, All-head, All-nil, All-tail, false≢true}
@@ -41,8 +41,8 @@ count_more log stored stored' more = grind (arith, prefix_len_weaker, nat_le, le
 
 -- ---- the law
 
--- logs may be others of the same entries, and backups may store other bytes, where the part of logs holds of them, backup 1 stores no less of
--- any log, and what a dead master knew of it stays
+-- logs may be others of the same entries, and backups may store other bytes, where the part of logs holds of them, backup 1 stores no less
+-- of any log, and what a dead master knew of it stays
 pub record MayCopy (v : View) (logs : ℕ → Log) (stored : ℕ → Segments) : Type 0 where
   pub fit : LogsOf (record v { logs = logs; stored = stored })
   pub backups : (q : ℕ) → length (logs q).known ≡ length (v.logs q).known

@@ -1,4 +1,4 @@
--- The law of entries: a view stays sound when a master appends an entry to its log for a tablet that it serves, where the entry is of no
+-- The law of entries: a view stays sound when a master appends an entry to its log for a tablet that it serves, if the entry is of no
 -- other row, and what it adds to its own row fits. What is said of other rows, masters and logs is not shown again.
 use Rattle.rk_inv_base.proofs.Words.{◌≡◌, ℕ, ◌≤◌, false, true, List, [], ◌∷◌, length, Some, refl, sym, ap, subst, ◌∙◌, ⊎_elim, inl, inr}
 use Rattle.rk_inv_base.proofs.Words.{◌⊎◌, All, Contains, slice_get, arith, cases_eq, All-push, All-weaker, EachIn, NumberMap, Call, Ended}
@@ -26,9 +26,9 @@ pub record IsAtEnd (lineage : List Member) (master : ℕ) : Type 0 where
   pub is_last : last_of lineage ≡ Some last
   pub here : last.master ≡ master
 
--- a living master that serves the tablet of a row, as the last member of its lineage, may append an entry for it, where its log has room, and
--- the entry names only what is stored, lies in rows, touches no range that the row does not meet, and counts for no other row. With it what
--- is staged of the row goes on as it should, and so do a target of the row, what the target names, and the calls that wait
+-- a living master that serves the tablet of a row, as the last member of its lineage, may append an entry for it, where its log has room,
+-- and the entry names only what is stored, lies in rows, touches no range that the row does not meet, and counts for no other row. With it
+-- what is staged of the row goes on as it should, and so do a target of the row, what the target names, and the calls that wait
 pub record MayAddEntry (v : View) (row : Row) (master : ℕ) (entry : Entry) (calls : ℕ → NumberMap Call) (new : Handover) : Type 0 where
   pub lives : v.live master ≡ true
   pub has_row : Contains v.rows row

@@ -1,4 +1,4 @@
--- What a backup stores of a member, and what it tells, once the member's log has more entries at its end.
+-- What a backup stores of a member, and what that records, once the member's log has more entries at its end.
 use Rattle.rk_inv_base.proofs.Words.{◌≡◌, ℕ, zero, suc, ◌≤◌, List, [], ◌∷◌, ◌++◌, refl, sym, ap, subst, arith, append_assoc, drop, take}
 use Rattle.rk_inv_base.proofs.Words.{nat_le, Contains, flat_map-append, All-weaker, Contains-append_left, filter-append, Held, Range}
 use Rattle.rk_inv_base.proofs.Words.{spelled, Entry, ends, end_of, cut, with_bytes, Log, with_entry, items_in, items_of, told, told_by}

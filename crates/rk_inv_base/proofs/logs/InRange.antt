@@ -1,4 +1,4 @@
--- What of a range stands in records once the items of a range are dropped that does not meet it.
+-- What of a range is in records once the items of a range that does not meet it are dropped.
 use Rattle.rk_inv_base.proofs.Words.{arith, ◌≡◌, ℕ, Bool, true, false, not, ◌||◌, List, ◌∙◌, ⊎_elim, filter, drop, All, Contains, sym, ◌⊎◌}
 use Rattle.rk_inv_base.proofs.Words.{Option, All-contains, list_any, meets, Held, Member, Range, Entry, is_in, without, is_of, items_of}
 use Rattle.rk_inv_base.proofs.Words.{unmarked_from, material_of, side_entries, Written, applied_entries, member_truth, applied_from}

@@ -1,4 +1,4 @@
--- What counts for the last member of a lineage and is not applied stands in the rest of the row; so does the entry of a call that waits.
+-- What counts for the last member of a lineage and is not applied is in the rest of the row; so is the entry of a call that waits.
 use Rattle.rk_inv_base.proofs.Words.{◌≡◌, ℕ, zero, suc, ◌+◌, ◌≤◌, Bool, true, false, cond, List, [], ◌∷◌, Some, ap, ◌∙◌, subst, arith, drop}
 use Rattle.rk_inv_base.proofs.Words.{max, slice_get, All, cond-true, All-head, All-tail, Call, Member, Range, Entry, Handover, lineage_of}
 use Rattle.rk_inv_base.proofs.Words.{Row, last_of, is_marked, unmarked, unmarked_from, counting, counts, Written, lineage_rest, member_rest}

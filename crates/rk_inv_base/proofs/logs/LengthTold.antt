@@ -1,5 +1,5 @@
--- A lane stays sound when a master is told that a backup stores so many bytes of a segment. What it believes then of the other backups,
--- and what each other master believes, is as it was; what is needed of dead masters too, since this one lives.
+-- A lane stays sound when a backup reports to a master how many bytes of a segment it stores. What the master believes then of the other
+-- backups, and what each other master believes, is as it was; what is needed of dead masters too, since this one lives.
 use Rattle.rk_inv_base.proofs.Words.{◌≡◌, ℕ, ◌-◌, ◌≤◌, true, false, List, [], length, set, Option, refl, sym, ◌∙◌, subst, arith, length-set}
 use Rattle.rk_inv_base.proofs.Words.{get_or-set_same, get_or-set_other, le-leb, leb-true, append-nil, All, cases_eq, false≢true, All-weaker}
 use Rattle.rk_inv_base.proofs.Words.{list_all, option_map_or, Node, NumberedBytes, told_other, list_all_each, Known, is_whole, known_length}

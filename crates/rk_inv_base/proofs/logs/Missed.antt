@@ -1,4 +1,4 @@
--- What entries that do not touch a range tell of it: nothing; and what a history leaves at a key that it has no record of.
+-- What entries that do not touch a range record of it: nothing; and what a history leaves at a key that it has no record of.
 use Rattle.rk_inv_base.proofs.Words.{◌≡◌, ℕ, suc, ◌≤◌, Bool, true, false, cond, ◌&&◌, eqb, leb, List, [], ◌∷◌, ◌++◌, None, Some, Option}
 use Rattle.rk_inv_base.proofs.Words.{refl, ap, ◌∙◌, arith, drop, filter, All, flat_map, nat_tests, All-cons, All-head, All-tail, list_any}
 use Rattle.rk_inv_base.proofs.Words.{Placed, Range, name-swap, Map, is_at, map_after, map_with, with_change, change_of, Entry, is_marked}

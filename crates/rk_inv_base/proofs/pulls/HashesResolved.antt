@@ -1,4 +1,4 @@
--- What is pulled goes on when hashes are resolved, where all items of the source that have them have arrived.
+-- What is pulled goes on when hashes are resolved, once all items of the source that have them have arrived.
 use Rattle.rk_inv_base.proofs.Words.{◌≡◌, ℕ, Bool, true, false, cond, List, [], ◌∷◌, ◌++◌, eqb, ◌⊎◌, refl, ap, sym, subst, ◌∙◌, ⊎_elim, inl}
 use Rattle.rk_inv_base.proofs.Words.{inr, Contains, flat_map, eq-eqb, eqb-true, Contains-append_left, Contains-append_right}
 use Rattle.rk_inv_base.proofs.Words.{list_any-append, bytes_eq-Decides, Held, Member, at_hash, Row, Hashes, contains, got, is_batch}

@@ -1,4 +1,4 @@
--- What a target that joins is to its row, and how what it copied tells what its source has.
+-- What a target that joins is to its row, and how what it copied shows what its source has.
 use Rattle.rk_inv_base.proofs.Words.{arith, ◌≡◌, ℕ, ◌<◌, ◌⊎◌, Bool, true, false, cond, List, [], ◌∷◌, filter, fold, Option, Some, None}
 use Rattle.rk_inv_base.proofs.Words.{refl, sym, ◌∙◌, ⊎_elim, inl, inr, ◌==◌, Contains, flat_map, eq-eqb, eqb-true, cond_both, false≢true}
 use Rattle.rk_inv_base.proofs.Words.{Held, Member, Entry, lineage_of, Phase, Owned, Opening, Moving, Rebuilding, items_in, items_of}

@@ -1,4 +1,4 @@
--- A view stays sound when a target replays an item of its source: the item goes into the records, where it is newer than what is there,
+-- A view stays sound when a target replays an item of its source: the item goes into the records, if it is newer than what is there,
 -- and to the items that the target copied.
 use Rattle.rk_inv_base.proofs.Words.{◌≡◌, ℕ, ◌<◌, true, false, List, [], ◌∷◌, refl, sym, ap, ◌∙◌, subst, ⊎_elim, arith, IfSome, All}
 use Rattle.rk_inv_base.proofs.Words.{Contains, false≢true, All-contains, IfSome_then, hash_of, get, meets, Held, Member, Range, order_after}

@@ -1,4 +1,4 @@
--- A rebuild may go on when it gathers the segment that it awaits, where what was read is a first part of what is stored that holds all
+-- A rebuild may go on when it gathers the segment that it awaits, if what was read is a first part of what is stored that holds all
 -- that its master knew to be stored, and all that is needed.
 use Rattle.rk_inv_base.proofs.Words.{◌≡◌, ℕ, ◌<◌, ◌≤◌, Bool, true, false, List, [], ◌∷◌, ◌++◌, length, refl, sym, ap, ◌∙◌, subst}
 use Rattle.rk_inv_base.proofs.Words.{arith, not, ◌==◌, Contains, ltb-true, lt-ltb, length-append, cases_lt, or_right, get_or_past}

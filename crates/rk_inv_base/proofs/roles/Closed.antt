@@ -1,4 +1,4 @@
--- A source may take the role in which it closes a tablet at a greater term, as its row asks it to, or where it is to rebuild the tablet
+-- A source may take the role in which it closes a tablet at a greater term, as its row asks it to, or when it is to rebuild the tablet
 -- that was its alone.
 use Rattle.rk_inv_base.proofs.Words.{◌⊎◌, ◌≡◌, ℕ, ◌<◌, ◌≤◌, true, List, [], ◌∷◌, arith, Member, role_closed, Handover, lineage_of}
 use Rattle.rk_inv_base.proofs.Words.{Phase, Row, is_member, IsClosing, IsOnlyRebuilder, IsOwner, MayTakeRole, Post, post_of, bond_of, Holds}

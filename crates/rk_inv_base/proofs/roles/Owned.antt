@@ -1,4 +1,4 @@
--- A lane stays sound when the owner of a row, or one that owned it at the term that it keeps, serves once its closing entry is applied.
+-- A lane stays sound when the owner of a row, or a master that owned it at the term it keeps, serves once its closing entry is applied.
 use Rattle.rk_inv_base.proofs.Words.{◌≡◌, ℕ, false, [], refl, sym, ap, ◌∙◌, arith, lt-ltb, false≢true, get, Handover, Row}
 use Rattle.rk_inv_base.proofs.Words.{no_gather, Pulling, pulling_from, without_merged, World, tablet_in, MayTakeRole, post_of, speaks}
 use Rattle.rk_inv_base.proofs.Words.{is_granted, role_taken, View, view, SoundView, MayOwn, as_serving, pulled, tablet_owned_in}

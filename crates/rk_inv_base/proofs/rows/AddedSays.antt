@@ -1,4 +1,4 @@
--- Where a row is added for a master that served nothing of it, nothing was said of it.
+-- If a row is added for a master that served nothing of it, nothing was said of it.
 use Rattle.rk_inv_base.proofs.Words.{◌≡◌, ℕ, true, false, List, [], ◌∷◌, refl, arith, IfSome, is_some, Contains, false≢true, ⊤}
 use Rattle.rk_inv_base.proofs.Words.{meets, Node, Range, row_of, Row, Tenure, Body, new_row, IfMaster, range_in, tenure_in, View, added}
 use Rattle.rk_types.specs.declared.node.Node.TheVariants as nodes

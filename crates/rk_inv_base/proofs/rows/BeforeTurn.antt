@@ -1,5 +1,5 @@
--- What is known of a row that is to be turned: what its masters have is at most at its term; and one that is owned, or opens before its
--- target told a place, asks for no Close and is not rebuilt.
+-- What is known of a row that is to be turned: what its masters have is at most at its term; and a row that is owned, or opens before its
+-- target reported a place, asks for no Close and is not rebuilt.
 use Rattle.rk_inv_base.proofs.Words.{◌≡◌, ℕ, ◌≤◌, ◌<◌, Bool, true, eqb, None, refl, ⊎_elim, arith, inl, inr, All, Contains, cond_both}
 use Rattle.rk_inv_base.proofs.Words.{All-contains, ⊤, Phase, Owned, Opening, Row, IsRebuiltBy, row_at, post_of, StillCounts, MarkFits}
 use Rattle.rk_inv_base.proofs.Words.{HandoverFits, View, SoundView, MayFollowClose}

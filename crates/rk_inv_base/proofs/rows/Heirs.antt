@@ -1,4 +1,4 @@
--- Heirs: masters that are to rebuild a tablet. One that has not begun keeps a smaller term than the row's.
+-- Heirs: masters that are to rebuild a tablet. An heir that has not begun keeps a smaller term than the row's.
 use Rattle.rk_inv_base.proofs.Words.{arith, ◌≡◌, List, eq-eqb, false, ℕ, ◌<◌, FirstRebuilder, Holds, LastRebuilder, Member, OnlyRebuilder}
 use Rattle.rk_inv_base.proofs.Words.{OutsideRebuilder, Post, Rebuilding, Role, bond_of, cond-true, cond_both, is_member, is_rebuilding}
 use Rattle.rk_inv_base.proofs.Words.{post_of, rebuilder_post, ⊤}

@@ -1,4 +1,4 @@
--- What is known of rows where one is replaced by another of its number and range: each other one is of another number.
+-- What is known of rows when one is replaced by another of its number and range: each other one is of another number.
 use Rattle.rk_inv_base.proofs.Words.{◌≡◌, true, false, eqb, List, sym, subst, ◌∙◌, ⊎_elim, inl, inr, ◌⊎◌, All, Contains, eqb-true}
 use Rattle.rk_inv_base.proofs.Words.{cases_Bool, All-contains, lawful_turned, IsTabletMap, replaced, Row}
 use Rattle.rk_inv_base.proofs.Base.{same_number, all_by, new_stands, stands_found, stood}

@@ -1,4 +1,4 @@
--- A row may be turned when the place of a target is noted, where that waits at it at the row's term.
+-- A row may be turned when the place of a target is noted, if the target waits at it at the row's term.
 use Rattle.rk_inv_base.proofs.Words.{arith, ◌≡◌, ℕ, Bool, true, cond, eqb, Some, refl, sym, ap, subst, ◌∙◌, eqb-true, Handover, lineage_of}
 use Rattle.rk_inv_base.proofs.Words.{Phase, Opening, Row, names, IsMaster, MayTakePost, MayTurn, Post, InvitedTarget, ReadyTarget}
 use Rattle.rk_inv_base.proofs.Words.{OpeningSource, Bystander, post_of, bond_of, Holds, StillCounts, View, SoundView, MayNote}

@@ -1,4 +1,4 @@
--- What the invariant says of a row it says still once a master appends an entry to its log: of the row of another tablet, where the entry is
+-- What the invariant says of a row it says still once a master appends an entry to its log: of the row of another tablet, if the entry is
 -- of other ranges, and of the row of the tablet for which it appends it, by what the entry adds.
 use Rattle.rk_inv_base.proofs.Words.{◌≡◌, ℕ, true, false, List, [], ◌∷◌, ◌++◌, Option, refl, sym, ap, ◌∙◌, subst, arith, slice_index_or}
 use Rattle.rk_inv_base.proofs.Words.{IfSome, All, Contains, drop, max, Some, false≢true, All-head, All-tail, All-weaker, IfSome_then, get}

@@ -1,4 +1,4 @@
--- What messages say of a row, and hand over for it, where that is turned.
+-- What messages say of a row, and hand over for it, when that is turned.
 use Rattle.rk_inv_base.proofs.Words.{◌≡◌, ℕ, cond, eqb, List, Option, sym, ap, subst, IfSome, eq-eqb, eqb-true, arith, and_from}
 use Rattle.rk_inv_base.proofs.Words.{and_parts, cond-true, cond_both, get, Member, Node, Handover, lineage_of, Phase, Row, Grant, Prepare}
 use Rattle.rk_inv_base.proofs.Words.{Tenure, Transfer, Body, Got, Pulled, Rebuild, Handed, told, is_member, second_of, handed_by}

@@ -1,4 +1,4 @@
--- At most one living master answers calls for a range of a row: the one that speaks for it.
+-- At most one living master answers calls for a range of a row: the master that speaks for it.
 use Rattle.rk_inv_base.proofs.Words.{◌≡◌, ℕ, suc, Bool, true, false, eqb, cond, List, [], ◌∷◌, Some, is_some, refl, arith, Contains}
 use Rattle.rk_inv_base.proofs.Words.{nat_tests, meets, Range, is_serving, Role, number_of, row_of, Row, is_absent, OutsideRebuilder}
 use Rattle.rk_inv_base.proofs.Words.{bond_of, Holds, View, RowsOf, RolesOf, may_have_staged, Post}

@@ -1,4 +1,4 @@
--- Rows of a tablet map where one is turned into another of its number and range.
+-- Rows of a tablet map when one is turned into another of its number and range.
 use Rattle.rk_inv_base.proofs.Words.{◌≡◌, ℕ, suc, Bool, true, false, ◌||◌, cond, eqb, List, [], ◌∷◌, Option, Some, None, is_some, refl, sym}
 use Rattle.rk_inv_base.proofs.Words.{ap, subst, ◌∙◌, ⊎_elim, arith, ◌⊎◌, inl, inr, All, Contains, eq-eqb, eqb-true, find, cond_both}
 use Rattle.rk_inv_base.proofs.Words.{false≢true, All-contains, has, Range, IsTabletMap, is_covered, replaced, row_of, Row, list_any}

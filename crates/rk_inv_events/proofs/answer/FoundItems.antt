@@ -1,4 +1,4 @@
--- What records leave of a key: the same as all that counts, where they have its newest item, or all that came of it to a target. Where a tablet
+-- What records leave of a key: the same as all that counts, if they have its newest item, or all that came of it to a target. If a tablet
 -- that has no record of a key knows all of it, each item of the key that its source has has arrived.
 use Rattle.std.proofs.Common.{Bool, Contains, List, None, Option, Some, ap, arith, false, inl, inr, is_some, nat_lt, not, option_map, refl}
 use Rattle.std.proofs.Common.{sym, take, true, ℕ, ⊎_elim, ◌++◌, ◌<◌, ◌||◌, ◌∙◌, ◌≡◌, ◌≤◌, ◌⊎◌}

@@ -1,4 +1,4 @@
--- A sound and well formed lane stays sound when a master answers a get: what it tells is what the journal leaves, and the read gets its
+-- A sound and well formed lane stays sound when a master answers a get: what it returns is what the journal leaves, and the read gets its
 -- record at once.
 use Rattle.std.proofs.Common.{List, None, Option, Some, [], ap, arith, eq-eqb, false, length, not, refl, slice_get, subst, sym, true, ℕ}
 use Rattle.std.proofs.Common.{◌&&◌, ◌++◌, ◌||◌, ◌∙◌, ◌∷◌, ◌≡◌}

@@ -1,4 +1,4 @@
--- What a serving master's records leave of a key, where they have all of it that there is: the record that the row's truth leaves.
+-- What a serving master's records leave of a key, if they have all of it that there is: the record that the row's truth leaves.
 use Rattle.std.proofs.Common.{All, Contains, List, None, [], ap, append-nil, arith, drop, flat_map, inl, inr, refl, subst, sym, true, ℕ}
 use Rattle.std.proofs.Common.{⊎_elim, ◌++◌, ◌+◌, ◌<◌, ◌∙◌, ◌∷◌, ◌≡◌, ◌⊎◌}
 use Rattle.rk_inv_base.proofs.Words.{All-contains, Contains-append_cases, Entry, FirstIsDone, HasArrived, Held, IsTableOf, IsTruth, Member}

@@ -1,4 +1,4 @@
--- A sound and well formed lane stays sound when a master tells the outcome of a call that it knows to have ended.
+-- A sound and well formed lane stays sound when a master returns the outcome of a call that it knows to have ended.
 use Rattle.std.proofs.Common.{arith}
 use Rattle.std.proofs.lemmas.List.Folds.{find_at}
 use Rattle.std.proofs.Common.{Bool, Contains, List, None, Some, [], ap, eq-eqb, eqb-true, find, length, lt-ltb, ltb, position, slice_get}

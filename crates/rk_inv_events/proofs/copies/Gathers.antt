@@ -1,6 +1,6 @@
--- A sound and well formed lane that has room before and after it stays sound when a Copy reaches a master. A living one that awaits it gathers the
--- segment, since what is said of a Copy on the wire is all that this needs; and where that was the last one, what was gathered is merged as one
--- piece of its log.
+-- A sound and well formed lane that has room before and after it stays sound when a Copy reaches a master. A living master that awaits it
+-- gathers the segment, since what is said of a Copy on the wire is all that this needs; and if that was the last one, what was gathered is
+-- merged as one piece of its log.
 use Rattle.std.proofs.Common.{Contains, List, None, Some, ap, eqb-true, false, not, refl, sym, true, ℕ, ◌&&◌, ◌==◌, ◌∙◌, ◌≡◌, Bool, Option}
 use Rattle.std.proofs.Common.{cond, length, subst, All, ◌≤◌, inl, inr}
 use Rattle.rk_transfer.specs.declared.role.Role.TheVariants as roles

@@ -1,4 +1,4 @@
--- A sound lane stays sound at what clients do: one that comes, a request that is sent again, a turn and an answer.
+-- A sound lane stays sound at what clients do: a client that comes, a request that is sent again, a turn and an answer.
 use Rattle.std.proofs.Common.{Bool, IfSome, None, Option, Some, [], ap, arith, cond, eqb-true, false, inl, inr, is_some, ltb-true, nat_lt}
 use Rattle.std.proofs.Common.{not, refl, subst, sym, true, unwrap_or, ℕ, ◌&&◌, ◌==◌, ◌||◌, ◌∙◌, ◌∷◌, ◌≡◌}
 use Rattle.rk_message.specs.declared.message.Body.TheVariants as bodies

@@ -1,4 +1,4 @@
--- What the coordinator may order: each row's duty, and what it tells an owner and a source, says just what its receiver may follow. So a
+-- What the coordinator may order: each row's duty, and what it sends an owner and a source, says just what its receiver may follow. So a
 -- sound lane stays sound when the coordinator takes its turn, and sends each row's duty.
 use Rattle.std.proofs.Common.{All, Bool, Contains, IfSome, List, None, Option, Some, [], ap, arith, cond, eq-eqb, eqb-true, false, inl, inr}
 use Rattle.std.proofs.Common.{is_some, ne_eqb, refl, sym, true, ℕ, ◌==◌, ◌||◌, ◌∙◌, ◌≡◌, ◌≢◌, ◌≤◌}

@@ -1,5 +1,5 @@
--- What a living master may send on its turn for a tablet: it asks its source for what it lacks, reads the next segment of a rebuild, and tells the
--- coordinator that it has joined or rebuilt the tablet.
+-- What a living master may send on its turn for a tablet: it asks its source for what it lacks, reads the next segment of a rebuild, and
+-- reports to the coordinator that it has joined or rebuilt the tablet.
 use Rattle.std.proofs.Common.{arith, All, Contains, List, None, Some, [], ap, eq-eqb, false, filter, inl, inr, is_some, map, not}
 use Rattle.std.proofs.Common.{option_map, refl, sym, true, ℕ, ◌<◌, ◌==◌, ◌∙◌, ◌∷◌, ◌≡◌, ◌≤◌}
 use Rattle.rk_message.specs.declared.message.Body.TheVariants as bodies

@@ -1,4 +1,4 @@
--- What a row is like where a master has a role of its tablet, by the table of posts and bonds.
+-- What a row is like when a master has a role of its tablet, by the table of posts and bonds.
 use Rattle.std.proofs.Common.{List, None, Option, Some, [], arith, cond, eqb-true, false, length, ne_eqb, refl, true, ℕ, ◌<◌, ◌==◌}
 use Rattle.std.proofs.Common.{◌||◌, ◌∷◌, ◌≡◌, ◌≤◌}
 use Rattle.rk_transfer.specs.declared.role.Role.TheVariants as roles

@@ -1,5 +1,5 @@
--- A sound and well formed lane stays sound when a message that stands on the wire reaches a backup that tells what it stores. What an Append
--- adds continues what the backup stores, and it tells no more than it stores then; what it copies where it takes a Read is all that it
+-- A sound and well formed lane stays sound when a message that is on the wire reaches a backup that reports what it stores. What an Append
+-- adds continues what the backup stores, and it reports no more than it stores then; what it copies when it takes a Read is all that it
 -- stores of the segment, so all that is to be read.
 use Rattle.std.proofs.Common.{Bool, Contains, List, None, Option, Some, [], ap, append-nil, append_assoc, arith, bytes_eq, cond, drop}
 use Rattle.std.proofs.Common.{eq-eqb, false, inl, inr, is_some, leb-true, length, length-append, nat_le, refl, subst, suc, sym, take}

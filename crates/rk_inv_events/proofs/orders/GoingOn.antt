@@ -1,5 +1,5 @@
 -- What a rebuild of a living master that goes on leaves: while there is a segment to read nothing changes, and once all is gathered that is
--- merged, where the log has room.
+-- merged, if the log has room.
 use Rattle.std.proofs.Common.{None, Option, Some, [], ap, arith, length, refl, subst, sym, true, ℕ, ◌++◌, ◌<◌, ◌∙◌, ◌∷◌, ◌≡◌}
 use Rattle.rk_world.specs.Rebuilds.{piece_of}
 use Rattle.rk_inv_base.proofs.Words.{FIRST_SIDE_SEGMENT, Handover, HasRoom, IsSound, Ledger, Master, Merged, Reading, View, Worked}

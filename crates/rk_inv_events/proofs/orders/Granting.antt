@@ -1,5 +1,5 @@
--- A sound and well formed lane stays sound when a living master takes a Grant: where it waits for the tablet at that term, it has in its log
--- what its source told, and pulls.
+-- A sound and well formed lane stays sound when a living master takes a Grant: if it waits for the tablet at that term, it has in its log
+-- what its source handed over, and pulls.
 use Rattle.std.proofs.Common.{Contains, List, None, Option, Some, [], ap, arith, eqb-true, false, not, refl, sym, ℕ, ◌==◌, ◌∙◌, ◌∷◌, ◌≡◌}
 use Rattle.rk_message.specs.declared.message.Body.TheVariants as bodies
 use Rattle.rk_transfer.specs.declared.role.Role.TheVariants as roles

@@ -1,5 +1,5 @@
--- A sound lane stays sound when a living master takes an Own, a Release or a Close: it serves its tablet, gives it up, or closes it, where
--- the order still applies, and else stays as it is. First what the test of an order tells, and what a master may report where it takes one.
+-- A sound lane stays sound when a living master takes an Own, a Release or a Close: it serves its tablet, gives it up, or closes it, if
+-- the order still applies, and else stays as it is. First what the test of an order shows, and what a master may report when it takes one.
 use Rattle.std.proofs.Common.{Contains, IfSome, List, None, Option, Some, ap, arith, eq-eqb, eqb-true, false, inl, ltb-true, nat_lt, not}
 use Rattle.std.proofs.Common.{refl, subst, sym, true, unwrap_or, ℕ, ⊎_elim, ◌&&◌, ◌++◌, ◌<◌, ◌==◌, ◌∙◌, ◌≡◌, ◌⊎◌}
 use Rattle.rk_message.specs.declared.message.Body.TheVariants as bodies

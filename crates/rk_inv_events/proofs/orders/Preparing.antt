@@ -1,5 +1,5 @@
--- A sound lane stays sound when a living master takes a Prepare: it makes ready where the order's term is above all that it keeps there, and
--- says so; and one that made ready at that term says so again.
+-- A sound lane stays sound when a living master takes a Prepare: it makes ready if the order's term is above all that it keeps there, and
+-- says so; and a master that made ready at that term says so again.
 use Rattle.std.proofs.Common.{Contains, ap, arith, eqb-true, false, inl, inr, length, not, refl, subst, sym, true, ℕ, ◌<◌, ◌==◌, ◌∙◌, ◌≡◌}
 use Rattle.std.proofs.Common.{◌≤◌}
 use Rattle.rk_message.specs.declared.message.Body.TheVariants as bodies

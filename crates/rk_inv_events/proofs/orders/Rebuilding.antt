@@ -1,5 +1,5 @@
--- A sound and well formed lane stays sound when a living master takes a Rebuild: it begins to rebuild the tablet where the order's term is above
--- all that it keeps there, and merges at once where there is nothing to gather.
+-- A sound and well formed lane stays sound when a living master takes a Rebuild: it begins to rebuild the tablet if the order's term is
+-- above all that it keeps there, and merges at once if there is nothing to gather.
 use Rattle.std.proofs.Common.{All, Contains, List, None, [], ap, arith, false, filter, length, map, not, refl, subst, sym, true, ℕ, ◌<◌}
 use Rattle.std.proofs.Common.{◌==◌, ◌∙◌, ◌∷◌, ◌≡◌, ◌≤◌}
 use Rattle.rk_message.specs.declared.message.Body.TheVariants as bodies

@@ -1,5 +1,5 @@
--- What a target makes of a batch of its source: it replays the items and passes on to the next token; behind the last batch it seals what it
--- copied, and where it copied nothing it appends its closing entry at once.
+-- What a target makes of a batch of its source: it replays the items and passes on to the next token; behind the last batch it seals what
+-- it copied, and if it copied nothing it appends its closing entry at once.
 use Rattle.std.proofs.Common.{arith, Contains, List, Option, Some, [], ap, fold, inl, inr, length, refl, subst, sym, true, ℕ, ◌++◌, ◌<◌}
 use Rattle.std.proofs.Common.{◌∙◌, ◌≡◌}
 use Rattle.rk_transfer.specs.declared.role.Role.TheVariants as roles

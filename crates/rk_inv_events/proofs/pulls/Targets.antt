@@ -1,4 +1,4 @@
--- A target that pulls, by its row and its source: what it has of the source's items, what it leaves where it replays items of its source,
+-- A target that pulls, by its row and its source: what it has of the source's items, what it leaves when it replays items of its source,
 -- and that a sound lane stays sound when a Got reaches it.
 use Rattle.std.proofs.Common.{All, Bool, Contains, List, Some, [], ap, arith, cond, eqb-true, false, filter, flat_map, fold, inl, inr}
 use Rattle.std.proofs.Common.{is_some, not, refl, subst, sym, true, ℕ, ⊎_elim, ◌&&◌, ◌<◌, ◌∙◌, ◌∷◌, ◌≡◌}

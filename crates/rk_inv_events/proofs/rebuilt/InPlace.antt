@@ -1,5 +1,5 @@
--- Entries stand in the place of others: own ones, the newest items of all that was read but for those, and a Carried that has the floor of
--- all and the last ends. They tell what the others told.
+-- Entries take the place of others: own ones, the newest items of all that was read but for those, and a Carried that has the floor of
+-- all and the last ends. They record what the others recorded.
 use Rattle.std.proofs.Common.{All, Contains, List, Option, [], ap, append-nil, arith, inl, inr, refl, sym, true, ℕ, ⊎_elim, ◌++◌, ◌↔◌, ◌∙◌}
 use Rattle.std.proofs.Common.{◌∷◌, ◌≡◌, ◌≤◌, ◌⊎◌}
 use Rattle.rk_entry.specs.declared.entry.Entry.TheVariants as entries

@@ -1,5 +1,5 @@
--- The master that rebuilt a row may own it, once the rebuild is told: what it read is the truth of the row and a first part of its rest, and
--- the ends of the merge make the records of just that part.
+-- The master that rebuilt a row may own it, once the rebuild is reported: what it read is the truth of the row and a first part of its
+-- rest, and the ends of the merge make the records of just that part.
 use Rattle.std.proofs.Common.{arith, All, Contains, List, Some, [], ap, append-nil, inl, inr, subst, sym, ℕ, ◌++◌, ◌∙◌, ◌∷◌, ◌≡◌, ◌≤◌, ◌⊎◌}
 use Rattle.rk_tablet_map.specs.Phase.{member as member_at}
 use Rattle.rk_inv_base.proofs.Words.{All-contains, All-nil, Carried, Completions, Contains-append_cases, Contains-append_left}

@@ -1,5 +1,5 @@
 -- The first entries of a rest are served: each call that left one gets its record, and the entry comes to the end of the truth. Truth and
--- rest then tell the history with these records.
+-- rest then give the history with these records.
 use Rattle.std.proofs.Common.{All, AllPairs, Contains, List, Option, Some, [], ap, append-nil, append_assoc, arith, eq-eqb, eqb, false, inl}
 use Rattle.std.proofs.Common.{inr, not, refl, subst, suc, sym, true, ℕ, ◌&&◌, ◌++◌, ◌∙◌, ◌∷◌, ◌≡◌, ◌≢◌}
 use Rattle.rk_entry.specs.declared.entry.Entry.TheVariants as entries

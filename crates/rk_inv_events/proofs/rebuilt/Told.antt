@@ -1,4 +1,4 @@
--- Where a rebuild may be taken, its master may own the row: what it read is the truth of the row and a first part of the rest, and what it
+-- If a rebuild may be taken, its master may own the row: what it read is the truth of the row and a first part of the rest, and what it
 -- merged makes the records of just that part. So a sound lane stays sound when the rebuild is taken, and a well formed one that has room
 -- when a Rebuilt is delivered.
 use Rattle.std.proofs.Common.{Contains, List, Option, Some, [], ap, refl, subst, sym, ℕ, ◌==◌, ◌∙◌, ◌∷◌, ◌≡◌}

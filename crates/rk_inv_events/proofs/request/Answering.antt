@@ -1,5 +1,5 @@
--- A sound lane stays sound when a master takes a Request, where it does so with what the master chooses at each living master. So it does
--- when a master answers and serves no call: it ignores the Request, tells of another master, or asks the client to come again, once what it
+-- A sound lane stays sound when a master takes a Request, if it does so with what the master chooses at each living master. So it does
+-- when a master answers and serves no call: it ignores the Request, redirects the client, or asks it to come again, once what the master
 -- lacks of the key is wanted.
 use Rattle.std.proofs.Common.{ap, not, subst, sym, true, ℕ, ◌≡◌}
 use Rattle.rk_inv_base.proofs.Words.{Choice, Ignores, IsSound, Redirects, Request, Wants, World, answering, call_of, chosen, hash_of, lives}

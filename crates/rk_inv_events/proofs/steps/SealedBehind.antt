@@ -1,4 +1,4 @@
--- A target that takes a batch has room to seal behind it, where the lane has room once the batch is taken.
+-- A target that takes a batch has room to seal behind it, if the lane has room once the batch is taken.
 use Rattle.std.proofs.Common.{Bool, List, [], ap, arith, cond, fold, length, refl, true, ℕ, ◌+◌, ◌∙◌, ◌∷◌, ◌≡◌}
 use Rattle.rk_inv_base.proofs.Words.{HasRoom, Held, IsWellFormed, Master, Pulled, Tablet, World, batch_taken, changed, end, get_same}
 use Rattle.rk_inv_base.proofs.Words.{insert, is_token, items_of, joined, joining_by, log_bytes, master_at, pulled_all, sealed_sides}

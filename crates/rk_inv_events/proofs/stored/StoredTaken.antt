@@ -1,5 +1,5 @@
 -- What a master makes of a Stored, step by step: it applies the entries that every backup is known to hold, what waited for them goes on at
--- its tablets, and the clients of the calls that end with them are told. A sound lane stays sound at each step, and so when a Stored is
+-- its tablets, and the clients of the calls that end with them are answered. A sound lane stays sound at each step, and so when a Stored is
 -- taken.
 use Rattle.std.proofs.Common.{All, Bool, List, None, Option, Some, [], ap, append_assoc, arith, cond, drop, eq-eqb, false, fold, length}
 use Rattle.std.proofs.Common.{length-append, length-take, lt-ltb, ltb, map, not, position, refl, slice_get, subst, suc, sum_by, sym, take}

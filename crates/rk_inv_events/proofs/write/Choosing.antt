@@ -1,4 +1,4 @@
--- How a fresh mutation ends, by what its master chose: the record that stands at its key allows it.
+-- How a fresh mutation ends, by what its master chose: the record at its key allows it.
 use Rattle.std.proofs.Common.{arith, ◌≡◌, ℕ, ◌<◌, Bool, true, List, Option, Some, None}
 use Rattle.rk_inv_base.proofs.Words.{cond_both, ⊤, hash_of, Call, Op, Held, Allowed, change_of, last_version, record_of, map_entry_of}
 use Rattle.rk_inv_base.proofs.Words.{end_of_item, outcome_of, fresh_choice, is_known, item_of, needs_state, operation, version_of, Tablet}

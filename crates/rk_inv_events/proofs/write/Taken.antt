@@ -1,5 +1,5 @@
--- A sound and well formed lane stays sound when a master takes a Request that stands on the wire: where it stages nothing, and where it stages its
--- call. With room it does when any Request is delivered.
+-- A sound and well formed lane stays sound when a master takes a Request that is on the wire: when it stages nothing, and when it stages
+-- its call. With room it does when any Request is delivered.
 use Rattle.std.proofs.Common.{Bool, Option, Some, refl, subst, sym, ℕ, ◌≡◌}
 use Rattle.rk_world.specs.Requests.{refusal_staged, value_written, write_staged}
 use Rattle.rk_world.specs.declared.event.Event.TheVariants as events

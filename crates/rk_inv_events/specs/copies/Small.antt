@@ -21,6 +21,6 @@ awaits master copy =
     is_gathering tablet.handover.role && (tablet.handover.term == copy.tenure.term)
     && is_awaited (next_reading tablet.gather) copy.master copy.segment
 
--- what a master reads next for the tablet once it has gathered the copy; none where all is gathered
+-- what a master reads next for the tablet once it has gathered the copy; none if all is gathered
 abbrev pub next_after : Master → CopySegment → Option Reading
 next_after master copy = next_reading (with_gathered (tablet_at master copy.tenure.tablet) copy).gather

@@ -1,4 +1,4 @@
--- An order of the coordinator to a master, and where it stands on the wire of a lane.
+-- An order of the coordinator to a master, and when it is on the wire of a lane.
 use Rattle.std.specs.Prelude.{◌≡◌, ℕ, Some}
 use Rattle.rk_types.specs.NumberMap.{get}
 use Rattle.rk_types.specs.declared.node.Node.TheVariants as nodes
@@ -10,6 +10,6 @@ use Rattle.rk_world.specs.World.{World}
 abbrev pub order_to : ℕ → Body → Message
 order_to master body = record { from = nodes.Coordinator; to = nodes.Master master; body = body }
 
--- an order to a master stands on the wire under a number
+-- an order to a master is on the wire under a number
 abbrev pub IsOrdered : World → ℕ → ℕ → Body → Type 0
 IsOrdered w number master body = get w.wire.messages number ≡ Some (order_to master body)

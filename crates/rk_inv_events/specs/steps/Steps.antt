@@ -1,4 +1,4 @@
--- Steps: what is so of a lane where an event happens.
+-- Steps: what is so of a lane in which an event happens.
 use Rattle.std.specs.Prelude.{◌≡◌, None}
 use Rattle.rk_world.specs.declared.event.Event.{Event}
 use Rattle.rk_world.specs.Backup.{Called}
@@ -12,12 +12,12 @@ use Rattle.rk_world.specs.Step.{happened}
 use Rattle.rk_world.specs.World.{World}
 use Rattle.rk_inv_tablets.specs.steady.Steady.{AllSealedThere}
 
--- what is so of a lane from its start on, beside the invariant: its backups tell what they store, and what targets have sealed is there
+-- what is so of a lane from its start on, beside the invariant: its backups report what they store, and what targets have sealed is there
 pub record IsSteady (w : World) : Type 0 where
   pub tell : AllTell w
   pub sealed : AllSealedThere w
 
--- an event may happen in a lane, with this from replicas: the lane is well formed, has room before and after it, and its backups tell
+-- an event may happen in a lane, with this from replicas: the lane is well formed, has room before and after it, and its backups report
 -- what they store; the event names what is there, is not refused, and crashes no last master
 pub record MayStep (w : World) (event : Event) (called : Called) : Type 0 where
   pub formed : IsWellFormed w

@@ -1,4 +1,4 @@
--- A world where one master has worked so far, a Stored that was sent to it, and what it has when it lets its tablets go on.
+-- A world in which one master has worked so far, a Stored that was sent to it, and what it has when it lets its tablets go on.
 use Rattle.std.specs.Prelude.{◌≡◌, ◌<◌, ◌+◌, ℕ, true, All, length}
 use Rattle.rk_types.specs.NumberMap.{IsInOrder, NumberMap}
 use Rattle.rk_types.specs.declared.node.Node.TheVariants as nodes
@@ -15,7 +15,7 @@ use Rattle.rk_world.specs.Master.{Master}
 use Rattle.rk_world.specs.Tablet.{Tablet}
 use Rattle.rk_world.specs.World.{World, with_ledger, with_master}
 
--- a world where a master and the ledger are so
+-- a world in which a master and the ledger are so
 abbrev pub with_work : World → ℕ → Master → Ledger → World
 with_work w master now ledger = with_ledger (with_master w master now) ledger
 

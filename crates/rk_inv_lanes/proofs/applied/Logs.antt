@@ -1,4 +1,4 @@
--- What is applied of a log stays all that is held where the log grows, and becomes so again when a backup tells what it holds; and where
+-- What is applied of a log stays all that is held when the log grows, and becomes so again when a backup reports what it holds; and if
 -- not every backup is known to hold all entries of a log, some backup is to be sent bytes.
 use Rattle.std.proofs.Common.{Bool, List, None, Option, Some, [], ap, arith, drop, false, find, get_or, get_or-set_other, get_or-set_same}
 use Rattle.std.proofs.Common.{is_some, leb-false, length, length-append, length-drop, length-set, length-take-le, not, option_map, refl}

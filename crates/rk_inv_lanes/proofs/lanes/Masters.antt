@@ -1,4 +1,4 @@
--- What is so of each master of a lane stays so at an event, where each change of a master keeps it.
+-- What is so of each master of a lane stays so at an event, if each change of a master keeps it.
 use Rattle.std.proofs.Common.{arith, ℕ, Some, false, ◌≡◌}
 use Rattle.rk_inv_base.proofs.Words.{Called, Event, Master, Message, Node, Range, World, cases_eq, get, happened, has_crashed, master_at}
 use Rattle.rk_inv_base.proofs.Words.{master_step, master_turn, with_added, with_master, with_split}

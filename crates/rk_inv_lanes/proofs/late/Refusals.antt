@@ -1,4 +1,4 @@
--- A master refuses a call only where it may: by what it found as it chose.
+-- A master refuses a call only when it may: by what it found as it chose.
 use Rattle.std.proofs.Common.{arith, None, Option, Some, ap, false, is_some, ltb-false, nat_lt, not, refl, subst, true, unwrap_or, ℕ, ◌&&◌}
 use Rattle.std.proofs.Common.{◌∙◌, ◌≡◌}
 use Rattle.rk_inv_base.proofs.Words.{Call, Held, IsInOrder, Master, MayAnswerMoved, Redirects, Tablet, Wants, and_parts, choice_of}

@@ -1,5 +1,5 @@
 -- What is so of the entries of a master's log, of the items of its side segments and of its records, and of nothing else, stays so at each
--- message: also where a backup tells what it holds, if the items of the log fit.
+-- message: also when a backup reports what it holds, if the items of the log fit.
 use Rattle.std.proofs.Common.{arith, All, List, None, Option, Some, [], take, ℕ}
 use Rattle.rk_inv_base.proofs.Words.{All-drop, All-head, All-take, Entry, Held, Master, Message, Overreach, Stored, apply_entries}
 use Rattle.rk_inv_base.proofs.Words.{committed, items_in, items_of, master_step, newly_held, overreach, stored_taken, with_known}

@@ -1,4 +1,4 @@
--- What is so of a master stays so at each message that it takes, where what it replays fits and what it appends may be, and at its turn.
+-- What is so of a master stays so at each message that it takes, if what it replays fits and what it appends may be, and at its turn.
 use Rattle.std.proofs.Common.{arith, All, List, None, Option, Some, [], cond, false, length, nat_lt, true, ℕ, ◌%◌, ◌&&◌, ◌∷◌, Bool, fold}
 use Rattle.std.proofs.Common.{refl, ◌≡◌}
 use Rattle.rk_inv_base.proofs.Words.{All-head, All-tail, Body, Call, CopySegment, Entry, Got, Handover, Held, Master, Member, Merged, Node}

@@ -1,4 +1,4 @@
--- A sound and well formed lane with room, where records are logged and entries fit, has room after each event that is not refused, and
+-- A sound and well formed lane with room, in which records are logged and entries fit, has room after each event that is not refused, and
 -- records are logged and entries fit then.
 use Rattle.std.proofs.Common.{All, Contains, List, None, Option, Some, [], ap, arith, false, flat_map, length, not, refl, subst, sym}
 use Rattle.std.proofs.Common.{unwrap_or, ℕ, ⊎_elim, ◌*◌, ◌++◌, ◌+◌, ◌<◌, ◌∙◌, ◌∷◌, ◌≡◌, ◌≤◌}

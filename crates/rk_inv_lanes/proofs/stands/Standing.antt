@@ -1,4 +1,4 @@
--- In a quiet lane where all backups tell, what the first backup stores of the logs gives back what stands in them, and with it the map.
+-- In a quiet lane whose backups all report, what the first backup stores of the logs gives back what is in them, and with it the map.
 use Rattle.std.proofs.Common.{All, Bool, Contains, IfSome, List, None, Option, Some, [], ap, append-nil, arith, drop, eq-eqb, false}
 use Rattle.std.proofs.Common.{flat_map, get_or, is_some, le-ltb, leb-true, length, length-append, length-drop, map, nat_lt, not, refl}
 use Rattle.std.proofs.Common.{slice_get, subst, suc, sym, take, take_all, true, unwrap_or, zero, ℕ, ◌++◌, ◌+◌, ◌-◌, ◌<◌, ◌∙◌, ◌∷◌, ◌≡◌, ◌≤◌}

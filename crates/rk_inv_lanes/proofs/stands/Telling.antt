@@ -1,4 +1,4 @@
--- The backups of a lane that tell what they store are its own from the start on, whatever happens; and all tell where all told.
+-- The backups of a lane that report what they store are its own from the start on, whatever happens; and all report if all did.
 use Rattle.std.proofs.Common.{All, arith, leb-true, nat_le, suc, zero, ℕ, ◌+◌, ◌≤◌}
 use Rattle.rk_inv_base.proofs.Words.{All-cons, All-nil, Called, Event, NumberMap, Segments, World, and_parts, insert}
 use Rattle.rk_inv_base.proofs.Words.{range_with_len, refusal, stepped_by, world_stepped}

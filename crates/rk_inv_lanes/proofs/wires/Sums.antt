@@ -1,4 +1,4 @@
--- Sums over a map by number, where a thing is put under a number and what is under a number is taken out.
+-- Sums over a map by number, when a thing is put under a number and what is under a number is taken out.
 use Rattle.std.proofs.Common.{◌≡◌, ◌≤◌, ◌+◌, ℕ, Bool, true, false, cond, not, [], ◌∷◌, length, None, Some, refl, ap, arith, sum_by}
 use Rattle.std.proofs.Common.{nat_cmp, Less, Equal, Greater}
 use Rattle.rk_inv_base.proofs.Words.{sum_by-cons, by_order, eq_by_cmp, NumberMap, get, insert, remove}

@@ -13,7 +13,7 @@ IsKnownThere log =
     (backup segment : ℕ) → segment < FIRST_SIDE_SEGMENT
     → known_length (known_of log backup) segment ≤ length (bytes_of log segment)
 
--- so many first entries of a log are applied, as many as every backup is known to hold: where there is a backup, and where the main
+-- so many first entries of a log are applied, as many as every backup is known to hold: if there is a backup, and if the main
 -- segments are so few that their numbers are below those of side segments. An entry that is appended is not held then, since no backup is
 -- known to hold more than is there
 pub record AreApplied (log : Log) (count : ℕ) : Type 0 where

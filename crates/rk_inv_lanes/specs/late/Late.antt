@@ -19,7 +19,7 @@ use Rattle.rk_world.specs.Tablet.{Tablet}
 
 -- ---- at a master
 
--- the term at which a master keeps a tablet, 0 for one that it does not know
+-- the term at which a master keeps a tablet, 0 for a tablet that it does not know
 abbrev pub kept_term : Master → ℕ → ℕ
 kept_term master tablet = (tablet_at master tablet).handover.term
 
@@ -40,7 +40,7 @@ pub record KeepsNewer (master : Master) (term : ℕ) (range : Range) : Type 0 wh
   pub meeting : meets tablet.handover.range range ≡ true
   pub newer : term ≤ tablet.handover.term
 
--- an order to begin anew with a tablet comes late where the master keeps that tablet, or another one that meets the range, at this term
+-- an order to begin anew with a tablet comes late if the master keeps that tablet, or another tablet that meets the range, at this term
 -- or a greater one
 abbrev pub IsSurpassed : Master → Tenure → Range → Type 0
 IsSurpassed master tenure range = (tenure.term ≤ kept_term master tenure.tablet) ⊎ KeepsNewer master tenure.term range
@@ -49,8 +49,8 @@ IsSurpassed master tenure range = (tenure.term ≤ kept_term master tenure.table
 abbrev pub IsOfOtherTerm : Master → Tenure → Type 0
 IsOfOtherTerm master tenure = kept_term master tenure.tablet ≡ tenure.term → ⊥
 
--- a message about a tablet comes late to a master: a Prepare, a Rebuild and a Close, which bring a new term, where that is not greater than
--- what the master keeps; each other one where it is not of the very term that the master keeps
+-- a message about a tablet comes late to a master: a Prepare, a Rebuild and a Close, which bring a new term, if that is not greater than
+-- what the master keeps; each other message if it is not of the very term that the master keeps
 abbrev pub IsLate : Master → Body → Type 0
 IsLate master (bodies.Prepare prepare) = IsSurpassed master prepare.tenure prepare.range
 IsLate master (bodies.Rebuild rebuild) = IsSurpassed master rebuild.tenure rebuild.range
@@ -65,7 +65,7 @@ IsLate master (bodies.Want want) = IsOfOtherTerm master want.tenure
 IsLate master (bodies.Got message) = IsOfOtherTerm master message.tenure
 IsLate master _ = ⊥
 
--- the tablet and the move that an order asks for of a role that stands; a Prepare and a Rebuild begin anew
+-- the tablet and the move that an order asks for of an existing role; a Prepare and a Rebuild begin anew
 abbrev pub move_asked : Master → Body → Option (ℕ × Move)
 move_asked master (bodies.Close tenure) = Some (tenure.tablet, Close tenure.term)
 move_asked master (bodies.Grant grant) = Some (grant.tenure.tablet, Grant grant.tenure.term grant.floor)
@@ -82,7 +82,7 @@ DoesNotMove master (Some (tablet, move)) = moved (tablet_at master tablet).hando
 abbrev pub IsPassedOver : Master → Body → Type 0
 IsPassedOver master body = IsLate master body ⊎ DoesNotMove master (move_asked master body)
 
--- whether a master says again what it said when it followed an order: where it waits for its grant since that very Prepare, and where it
+-- whether a master says again what it said when it followed an order: if it waits for its grant since that very Prepare, or if it
 -- is frozen since that very Close
 abbrev pub says_again : Master → Body → Bool
 says_again master (bodies.Prepare prepare) =
@@ -118,7 +118,7 @@ abbrev pub is_owner : ℕ → Phase → Bool
 is_owner sender (Owned master from) = sender == master
 is_owner sender _ = false
 
--- whether the owner of a row is told again that it owns the tablet: where it reports that it has ended its work on it
+-- whether the owner of a row is sent its Own again: if it reports that it has ended its work on it
 abbrev pub is_told_again : Phase → ℕ → Body → Bool
 is_told_again phase sender (bodies.Joined tenure) = is_owner sender phase
 is_told_again phase sender (bodies.Rebuilt rebuilt) = is_owner sender phase

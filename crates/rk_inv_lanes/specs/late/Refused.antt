@@ -20,7 +20,7 @@ pub record IsPutOff (master : Master) (call : Call) : Type 0 where
   pub tablet : ℕ
   pub may : MayAnswerNotYet master call tablet
 
--- an answer tells an outcome, and refuses nothing
+-- an answer gives an outcome, and refuses nothing
 abbrev pub IsOutcome : Answer → Type 0
 IsOutcome (answers.Done outcome) = ⊤
 IsOutcome _ = ⊥

@@ -23,7 +23,7 @@ order_to master body = record { from = nodes.Coordinator; to = nodes.Master mast
 abbrev pub report_of : ℕ → Body → Message
 report_of master body = record { from = nodes.Master master; to = nodes.Coordinator; body = body }
 
--- nothing has changed, and just one message was sent: a master is told that it owns the tablet of a row
+-- nothing has changed, and just one message was sent: the Own of a row's tablet, to a master
 pub record IsToldToOwn (before : World) (master : ℕ) (row : Row) (after : World) : Type 0 where
   pub unchanged : IsUnchanged before after
   pub told : after.wire ≡ with_message (own_to master row) before.wire

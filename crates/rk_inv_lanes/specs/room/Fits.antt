@@ -1,4 +1,4 @@
--- Each entry of a log fits a segment: also the one that names the side segments of a target, since these are few.
+-- Each entry of a log fits a segment: also the entry that names the side segments of a target, since these are few.
 use Rattle.std.specs.Prelude.{ℕ, ◌≤◌, All, length}
 use Rattle.rk_types.specs.NumberMap.{EachIn}
 use Rattle.rk_types.specs.declared.held.TheConstants.{SEGMENT_BYTES}

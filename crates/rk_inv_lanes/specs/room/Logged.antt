@@ -11,7 +11,7 @@ use Rattle.rk_world.specs.World.{World, master_at}
 abbrev pub logged_by : Master → List Held
 logged_by master = items_of master.log.entries ++ flat_map (λ items. items) master.sides
 
--- an item is logged in a lane: it stands in the log of some master, which may have crashed
+-- an item is logged in a lane: it is in the log of some master, which may have crashed
 pub record IsLogged (w : World) (item : Held) : Type 0 where
   pub master : ℕ
   pub stands : Contains (logged_by (master_at w master)) item

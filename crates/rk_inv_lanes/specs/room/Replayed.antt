@@ -18,13 +18,13 @@ use Rattle.rk_world.specs.Pulls.{is_token}
 use Rattle.rk_world.specs.RoleTests.{is_receiving_at}
 use Rattle.rk_world.specs.World.{World, has_crashed, master_at}
 
--- the items of a Pulled, where it is that of the token of a tablet that pulls
+-- the items of a Pulled, if it is that of the token of a tablet that pulls
 abbrev pub pulled_items : Master → Pulled → List Held
 pulled_items master pulled =
     let tablet = tablet_at master pulled.tenure.tablet in
     if is_receiving_at tablet pulled.tenure.term && is_token pulled.token tablet.pulling.token then items_of pulled.entries else []
 
--- the items of a Got, where its hashes are those that a tablet that pulls waits for
+-- the items of a Got, if its hashes are those that a tablet that pulls waits for
 abbrev pub got_items : Master → Got → List Held
 got_items master message =
     let tablet = tablet_at master message.tenure.tablet in
@@ -37,7 +37,7 @@ replayed_of master (bodies.Pulled pulled) = pulled_items master pulled
 replayed_of master (bodies.Got message) = got_items master message
 replayed_of master body = []
 
--- the items that its receiver replays; one that has crashed replays none
+-- the items that its receiver replays; a master that has crashed replays none
 abbrev pub replayed_to : World → Node → Body → List Held
 replayed_to w (nodes.Master master) body = if has_crashed w master then [] else replayed_of (master_at w master) body
 replayed_to w to body = []

@@ -15,7 +15,7 @@ use Rattle.rk_world.specs.declared.event.Event.TheVariants as events
 
 -- what comes of a message of the wire
 pub data Arrival : Type 0 where
-  -- it is delivered to its receiver, unless that is refused; `called` tells what the call of a replica comes to, if one is called
+  -- it is delivered to its receiver, unless that is refused; `called` gives what the call of a replica comes to, if one is called
   Delivers : (called : Called) → Arrival
   -- the client of a session takes it, unless that is refused
   Accepts : (session : Session) → Arrival

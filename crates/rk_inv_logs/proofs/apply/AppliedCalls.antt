@@ -1,4 +1,4 @@
--- What entries tell of a key, with one more of them, and of all mutations.
+-- What entries record of a key, with one more of them, and of all mutations.
 use Rattle.std.proofs.Common.{ℕ, List, sym, subst, inl, inr, Contains, true, ◌≡◌}
 use Rattle.rk_inv_base.proofs.Words.{All-weaker, IsReached, Placed, Range, TellAll, is_mutation, is_record_in, cases_Bool, Ended, Entry}
 use Rattle.rk_inv_base.proofs.Words.{of_key, tells_of, told, told_by}

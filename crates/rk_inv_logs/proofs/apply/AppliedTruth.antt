@@ -1,4 +1,4 @@
--- What the entry of a call leaves of a truth, wherever it stands there: what the call leaves of the map.
+-- What the entry of a call leaves of a truth, at whatever place of it: what the call leaves of the map.
 use Rattle.std.proofs.Common.{◌≡◌, ℕ, ◌<◌, true, false, ◌&&◌, eqb, List, [], ◌∷◌, ◌++◌, Some, refl, sym, ap, ◌∙◌, ⊎_elim, bytes_eq}
 use Rattle.rk_inv_base.proofs.Words.{cases_Bool, cond-true, cond-false, flat_map-append, All-contains, All-head, Call, Held, name-swap, Map}
 use Rattle.rk_inv_base.proofs.Words.{with_change, Entry, newest_is, newer_item, newest_from-append, with_newer_here, with_newer_other}

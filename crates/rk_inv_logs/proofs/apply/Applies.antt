@@ -1,6 +1,6 @@
--- The law of entries that are applied: a view stays sound when the next entry of a master's log is, where what counts for each row tells
+-- The law of entries that are applied: a view stays sound when the next entry of a master's log is, if what counts for each row gives
 -- its history then, and what is said beside the rows is so. What is asked beside it of the entry, and what follows for targets, for
--- rebuilds and for messages, is the same whatever it tells.
+-- rebuilds and for messages, is the same whatever it records.
 use Rattle.std.proofs.Common.{◌≡◌, ℕ, ◌+◌, true, false, List, [], ◌∷◌, Some, refl, sym, ap, ◌∙◌, subst, inl, inr, ◌⊎◌, arith, ◌≤◌, ◌<◌}
 use Rattle.std.proofs.Common.{Contains, All, IfSome, slice_get, slice_index_or, Option, None, ◌++◌, drop, option_map}
 use Rattle.rk_inv_base.proofs.Words.{All-contains, All-cons, All-nil, IfSome_then, get_or_from_slice_get, slice_get_within, get, Ended}

@@ -1,4 +1,4 @@
--- The entry of a call comes into the truth of a row, and its record into the journal: the row tells its history still, and so does each
+-- The entry of a call comes into the truth of a row, and its record into the journal: the row still gives its history, and so does each
 -- other one.
 use Rattle.std.proofs.Common.{◌≡◌, ℕ, suc, true, false, List, [], ◌∷◌, ◌++◌, Option, refl, sym, ap, ◌∙◌, subst, inl, inr, arith, ◌≢◌, All}
 use Rattle.std.proofs.Common.{AllPairs, Contains}

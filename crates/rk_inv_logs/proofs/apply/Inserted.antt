@@ -1,5 +1,5 @@
--- Lists of entries into which others came: what they tell more, where one entry came in that has the newest item of its key, and how the
--- next entry of a log comes to what is applied.
+-- Lists of entries into which others came: what more they record, also when one entry came in that has the newest item of its key, and how
+-- the next entry of a log comes to what is applied.
 use Rattle.std.proofs.Common.{◌≡◌, Bool, List, [], ◌++◌, ap, sym, ◌∙◌, subst, inl, inr, ◌⊎◌, append_assoc, filter, Contains, flat_map, ℕ}
 use Rattle.std.proofs.Common.{◌+◌, ◌≤◌, ◌<◌, max, true, false, ◌∷◌, Some, refl, arith, fold, All, length, drop, take, slice_get}
 use Rattle.std.proofs.Common.{length-take-le}

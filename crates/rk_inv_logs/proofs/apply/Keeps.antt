@@ -1,5 +1,5 @@
--- Truth and rest of a row, where what was applied tells nothing new: a block of entries came into the truth that were there already, or
--- stood first in the rest, with no item and of no call.
+-- Truth and rest of a row, if what was applied records nothing new: a block of entries came into the truth that were there already, or
+-- were first in the rest, with no item and of no call.
 use Rattle.std.proofs.Common.{arith, ◌≡◌, ◌≤◌, List, [], ◌∷◌, ◌++◌, refl, ap, ◌∙◌, subst, inl, inr, ◌⊎◌, All, Contains, flat_map}
 use Rattle.rk_inv_base.proofs.Words.{flat_map-append, All-contains, All-head, All-tail, Contains-append_cases}
 use Rattle.rk_inv_base.proofs.Words.{Contains-append_left, Contains-append_right, Ended, Held, Placed, Entry, none_stands, IsPlain, Base}

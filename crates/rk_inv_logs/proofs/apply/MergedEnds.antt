@@ -1,4 +1,4 @@
--- What a rebuild merged tells of each client an end that is not before any that its members tell: so noting one of these again changes
+-- What a rebuild merged records of each client an end that is not before any that its members record: so noting one of these again changes
 -- nothing.
 use Rattle.std.proofs.Common.{◌≡◌, ℕ, ◌≤◌, ◌<◌, Bool, true, false, cond, not, ◌&&◌, ◌||◌, eqb, ltb, List, [], ◌∷◌, ◌++◌, Option, Some, None}
 use Rattle.std.proofs.Common.{refl, sym, ap, ◌∙◌, subst, inl, inr, ◌⊎◌, arith, map, Contains, flat_map, eq-eqb, eqb-true, le-ltb, ltb-false}

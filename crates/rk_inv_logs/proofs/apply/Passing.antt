@@ -1,5 +1,5 @@
--- An entry is applied with which no call ends and that tells nothing new: a Carried, or one that bears a mark. Truth and rest of each row
--- tell what they told, and the view stays sound.
+-- An entry is applied with which no call ends and that records nothing new: a Carried, or an entry that bears a mark. Truth and rest of
+-- each row record what they did, and the view stays sound.
 use Rattle.std.proofs.Common.{◌≡◌, ℕ, ◌≤◌, Bool, true, false, List, [], ◌∷◌, ◌++◌, None, refl, sym, ap, ◌∙◌, inl, inr, ◌⊎◌, arith}
 use Rattle.std.proofs.Common.{slice_get, All, Contains, Option, Some, subst, IfSome, eq-eqb, ◌<◌, is_some}
 use Rattle.rk_inv_base.proofs.Words.{Call, Waits, All-contains, All-nil, All-tail, get, Ended, Held, Member, Range, Map, map_after, Entry}

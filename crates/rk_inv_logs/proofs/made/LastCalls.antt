@@ -1,4 +1,4 @@
--- What ends of calls tell: of staged entries, of calls that wait for their records, of last calls, and of the ends that masters note.
+-- What ends of calls show: of staged entries, of calls that wait for their records, of last calls, and of the ends that masters note.
 use Rattle.std.proofs.Common.{◌≡◌, ℕ, false, eqb, List, [], ◌++◌, Option, ◌∙◌, inl, inr, ◌⊎◌, ◌≢◌, All, Contains, ne_eqb, Bool, true, not}
 use Rattle.std.proofs.Common.{◌∷◌, filter, Some, None, refl, sym, ap, subst, append_assoc, eq-eqb, eqb-true, ◌<◌, ◌≤◌, arith, IfSome, cond}
 use Rattle.std.proofs.Common.{⊎_elim, nat_cmp, ltb-false}

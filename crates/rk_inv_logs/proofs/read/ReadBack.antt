@@ -1,4 +1,4 @@
--- What was gathered for a rebuild tells the truth of the row and a first part of its rest, whoever of the lineage was read and whoever
+-- What was gathered for a rebuild gives the truth of the row and a first part of its rest, whoever of the lineage was read and whoever
 -- rebuilds.
 use Rattle.std.proofs.Common.{◌≡◌, ℕ, List, [], ◌∷◌, filter, map, refl, sym, ◌==◌, not, eq-eqb, ne_eqb, append-nil, ◌⊎◌, max, true, ◌++◌}
 use Rattle.std.proofs.Common.{append_assoc, ap, subst, ◌∙◌, arith, drop, take, All, Contains, flat_map, inl, inr, ◌≤◌, ◌<◌, false, length}

@@ -1,4 +1,4 @@
--- Lists of ends and items that tell the same: what is read of a list in parts tells all that the whole does.
+-- Lists of ends and items that record the same: what is read of a list in parts records all that the whole does.
 use Rattle.std.proofs.Common.{◌≡◌, ℕ, zero, ◌⊎◌, inl, inr, List, [], ◌∷◌, Option, Some, None, refl, ap, ⊎_elim, arith, Contains, suc, ◌<◌}
 use Rattle.std.proofs.Common.{◌≤◌, true, false, ◌++◌, length, sym, subst, drop, slice_get, take, flat_map, take-append-drop, append_assoc}
 use Rattle.std.proofs.Common.{map, All}

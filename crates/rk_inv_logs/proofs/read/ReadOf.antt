@@ -1,4 +1,4 @@
--- What a rebuild reads of a member: its own log, where its piece stands, and that what it needs is read.
+-- What a rebuild reads of a member: its own log, where its piece is, and that what it needs is read.
 use Rattle.std.proofs.Common.{◌≡◌, ◌≤◌, ◌⊎◌, inl, inr, ℕ, zero, suc, false, List, [], ◌∷◌, ◌++◌, max, Some, None, refl, sym, ap, subst, ◌∙◌}
 use Rattle.std.proofs.Common.{arith, ◌==◌, IfSome, drop, All, Contains, flat_map, eq-eqb, eqb-true, append-nil, length, ◌&&◌, ◌<◌, true}
 use Rattle.std.proofs.Common.{nat_le, nat_lt, slice_get, le-leb, lt-ltb, Bool, filter, Option, not, option_map}

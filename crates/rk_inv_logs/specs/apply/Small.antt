@@ -20,12 +20,12 @@ use Rattle.rk_sound.specs.Changes.{MayApply}
 use Rattle.rk_sound.specs.Small.{put, put2}
 use Rattle.rk_sound.specs.View.{View}
 
--- what masters have written, where one has applied one more entry
+-- what masters have written, when one has applied one more entry
 abbrev pub with_one_applied : (ℕ → Written) → ℕ → ℕ → Written
 with_one_applied written master q =
     record (written q) { applied = put (λ r. (written r).applied) master ((written master).applied + 1) q }
 
--- records with the item of an entry, if it is one, where that is newer than what is there
+-- records with the item of an entry, if the entry is an item that is newer than what is there
 abbrev pub with_item_of : Entry → List Held → List Held
 with_item_of (entries.Held held) records = with_newer held records
 with_item_of _ records = records

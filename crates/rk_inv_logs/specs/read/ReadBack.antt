@@ -11,8 +11,8 @@ use Rattle.rk_world.specs.Merge.{floor_of}
 abbrev pub all_of : List (List Entry) → List Entry
 all_of members = flat_map (λ entries. entries) members
 
--- the ends that were read, member by member, in order: those of the part stand together at one member, in their order. All others are told
--- by the truth or by the part, those before them at that member by the truth, and members after it tell none
+-- the ends that were read, member by member, in order: those of the part are together at one member, in their order. All others are
+-- recorded by the truth or by the part, those before them at that member by the truth, and members after it record none
 pub record TellInOrder (truth part : List Entry) (members : List (List Entry)) : Type 0 where
   pub before : List (List Ended)
   pub first : List Ended

@@ -1,4 +1,4 @@
--- What stands in lists that others are made of: in parts of them, in what is kept by a test, and in what each element gives.
+-- What is in lists that others are made of: in parts of them, in what is kept by a test, and in what each element gives.
 use Rattle.std.proofs.Common.{◌≡◌, ℕ, zero, suc, ◌≤◌, Bool, true, List, [], ◌∷◌, arith, drop, take, filter, All, Contains, flat_map}
 use Rattle.rk_inv_base.proofs.Words.{All-contains, All-contains_itself, All-drop, All-nil, All-take}
 use Rattle.std.proofs.lemmas.List.{take-take}

@@ -1,4 +1,4 @@
--- Where marks are taken from entries that tell nothing of a range, what bears no mark tells the same of it, and so does what bears one.
+-- If marks are taken from entries that record nothing of a range, what bears no mark records the same of it, and so does what bears one.
 use Rattle.std.proofs.Common.{◌≡◌, ℕ, suc, ◌+◌, Bool, true, false, cond, List, [], ◌∷◌, ◌++◌, Some, refl, sym, ap, ◌∙◌, arith, slice_get}
 use Rattle.std.proofs.Common.{flat_map, ◌≤◌, Contains}
 use Rattle.rk_inv_base.proofs.Words.{cond-false, false≢true, Range, Entry, is_marked, unmarked, counting, counts, named_by, Mark}

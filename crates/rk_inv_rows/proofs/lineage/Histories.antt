@@ -1,4 +1,4 @@
--- What a sound view says of the truth and the rest of one row, and what of them tells of one key.
+-- What a sound view says of the truth and the rest of one row, and what of them concerns one key.
 use Rattle.std.proofs.Common.{ℕ, List, ◌++◌, refl, Contains, ◌≡◌}
 use Rattle.rk_inv_base.proofs.Words.{Entry, Row, of_key, tells_of, View, truths, rests, SoundView, All-contains, HandoverFits}
 use Rattle.rk_inv_rows.proofs.Words.{filter_from, TellHistory, row_in}

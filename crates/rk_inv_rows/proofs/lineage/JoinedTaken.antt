@@ -1,4 +1,4 @@
--- The target of a row that moves owns it, once its closing entry is applied: what counts of its log tells all of the row, and the view
+-- The target of a row that moves owns it, once its closing entry is applied: what counts of its log records all of the row, and the view
 -- stays sound.
 use Rattle.std.proofs.Common.{◌≡◌, ℕ, ◌≤◌, ◌<◌, true, List, [], ◌∷◌, ◌++◌, Option, Some, sym, ap, subst, ◌∙◌, ⊎_elim, arith, inl, inr}
 use Rattle.std.proofs.Common.{append-nil, append_assoc, All, IfSome, drop, max, take, Contains, flat_map, option_map, slice_index_or, Bool}

@@ -1,4 +1,4 @@
--- What the invariant says of another row, of its lineage and of what is rebuilt and marked of it, stays where the marks of a tablet are
+-- What the invariant says of another row, of its lineage and of what is rebuilt and marked of it, stays when the marks of a tablet are
 -- taken away.
 use Rattle.std.proofs.Common.{arith, ◌≡◌, ℕ, ◌+◌, ◌≤◌, Bool, true, false, eqb, List, [], ◌∷◌, Some, refl, sym, ◌∙◌, ⊎_elim, All, drop}
 use Rattle.std.proofs.Common.{filter, nat_le, nat_lt, not, slice_get, take, Contains, eqb-true}

@@ -1,4 +1,4 @@
--- Where the marks of a row's tablet are taken away, all that is said of another row by what masters have written stays: what bore them is
+-- When the marks of a row's tablet are taken away, all that is said of another row by what masters have written stays: what bore them is
 -- of the row's range alone.
 use Rattle.std.proofs.Common.{◌≡◌, ℕ, ◌+◌, ◌≤◌, Bool, true, false, ◌&&◌, eqb, List, [], ◌∷◌, ◌++◌, Some, refl, sym, ap, ◌∙◌, ⊎_elim, arith}
 use Rattle.std.proofs.Common.{drop, filter, fold, max, nat_le, nat_lt, not, slice_get, Contains, flat_map, eqb-true, le-leb, lt-ltb}

@@ -1,4 +1,4 @@
--- What is known of a row where the master that rebuilt it owns it: it took another phase at its own term.
+-- What is known of a row when the master that rebuilt it owns it: it took another phase at its own term.
 use Rattle.std.proofs.Common.{◌≡◌, ℕ, true, eqb, List, Option, Some, sym, ap, ◌∙◌, arith, eq-eqb, eqb-true}
 use Rattle.rk_inv_base.proofs.Words.{cond_both, false≢true, Ended, Member, Role, Owned, Rebuilding, Row, Grant, Handed, is_member, or_left}
 use Rattle.rk_inv_base.proofs.Words.{is_wanting, GrantIn, HasRebuilt, MayTakeRebuilt, Bystander, FormerMember, Post, Holds, bond_of}

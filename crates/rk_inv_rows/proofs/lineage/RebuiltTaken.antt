@@ -1,4 +1,4 @@
--- A view stays sound when the master that rebuilt a row owns it, where the records that are made of what it told go on lawfully.
+-- A view stays sound when the master that rebuilt a row owns it, if the records that are made of what it reported go on lawfully.
 use Rattle.std.proofs.Common.{◌≡◌, ℕ, ◌≤◌, ◌<◌, Bool, true, false, cond, eqb, List, [], ◌∷◌, ◌++◌, Option, Some, refl, sym, ap, subst, ◌∙◌}
 use Rattle.std.proofs.Common.{⊎_elim, arith, inl, inr, All, drop, is_some, length, max, nat_le, nat_lt, not, ◌⊎◌, Contains, eq-eqb}
 use Rattle.std.proofs.Common.{eqb-true, le-leb, slice_index_or}

@@ -1,4 +1,4 @@
--- A lane stays sound when a rebuild is taken, where the records that its ends make go on lawfully.
+-- A lane stays sound when a rebuild is taken, if the records that its ends make go on lawfully.
 use Rattle.std.proofs.Common.{arith, ◌≡◌, ℕ, Bool, eqb, List, [], ◌∷◌, ◌++◌, Option, refl, sym, ap, ◌∙◌, append-nil, append_assoc, filter}
 use Rattle.std.proofs.Common.{fold, not, subst}
 use Rattle.rk_inv_base.proofs.Words.{Ended, Placed, Member, Row, outcome_of, has_record, next_record, Ledger, asked_by, with_ends}

@@ -1,4 +1,4 @@
--- A view stays sound when a row moves, once its source is frozen and has told what it hands over, and its target waits at its place.
+-- A view stays sound when a row moves, once its source is frozen and has reported what it hands over, and its target waits at its place.
 use Rattle.std.proofs.Common.{◌≡◌, ℕ, ◌≤◌, Bool, true, cond, eqb, List, [], ◌∷◌, ◌++◌, Some, refl, sym, ap, subst, ◌∙◌, arith}
 use Rattle.std.proofs.Common.{inr, append-nil, All, IfSome, filter, Contains, flat_map, option_map, eq-eqb, eqb-true}
 use Rattle.rk_inv_base.proofs.Words.{cond_both, false≢true, All-cons, All-head, All-nil, get_other, get_same, NumberMap, get, insert}

@@ -1,4 +1,4 @@
--- A half of a row has of all that the whole has what is of its range: what counts for it, what that tells, what goes on behind it, and so
+-- A half of a row has of all that the whole has what is of its range: what counts for it, what that records, what goes on behind it, and so
 -- what the invariant says of the whole.
 use Rattle.std.proofs.Common.{◌≡◌, ℕ, ◌≤◌, Bool, true, false, arith, refl, sym, suc, max, cond, List, [], ◌∷◌, ◌++◌, filter, fold, ap, ◌∙◌}
 use Rattle.std.proofs.Common.{drop, nat_lt, slice_index_or, ◌-◌, All, flat_map, ◌<◌, ⊎_elim, append-nil, Option, ◌≢◌, AllPairs, ◌⊎◌, subst}

@@ -29,7 +29,7 @@ use Rattle.rk_sound.specs.Receives.{HandedFits, MembersFit, NamedFit}
 use Rattle.rk_sound.specs.Moves.{row_at}
 use Rattle.rk_inv_rows.specs.lineage.Passing.{PassesOn}
 
--- entries that count for a row tell all of it: a truth and a rest behind it
+-- entries that count for a row record all of it: a truth and a rest behind it
 pub record TellHistory (base : Base) (range : Range) (truth rest : List Entry) (journal : List Placed) (asked : ℕ → Option LastCall) : Type 0 where
   pub leaves : IsTruth base range truth journal
   pub above : AreAbove (items_of truth) (items_of rest)
@@ -47,7 +47,7 @@ pub record MembersAgree (v : View) (row : Row) (handed : NumberMap Handed) : Typ
   pub target : MembersFit row v.written v.handovers v.pullings v.records handed (lineage_of row.phase)
   pub handed_on : HandedFits row v.handovers v.completions handed (lineage_of row.phase)
 
--- what a target has, and what it is to be granted, will tell all of a row once its source is forgotten
+-- what a target has, and what it is to be granted, will record all of a row once its source is forgotten
 pub record MayBeLeft (v : View) (row : Row) (handed : NumberMap Handed) : Type 0 where
   pub ends : IfSome (target_truth v.written handed row row.phase) (TellAll row.range v.journal)
   pub low : IfSome (target_truth v.written handed row row.phase) (AreAboveMap row.range (map_after (base_map v.base) v.journal))
@@ -55,9 +55,9 @@ pub record MayBeLeft (v : View) (row : Row) (handed : NumberMap Handed) : Type 0
       IfSome (handed_for_grant row v.handovers handed)
       (λ h. AreHandedOver v.base row.range v.journal h.ends × IsNext (truths v row ++ rests v row) h.floor)
 
--- a row that passes on may take another lineage at the same term, where its source and its target have that term, what each master has
--- fits its new post and speaks no more in it, and what counts for the row now tells all of it, with no greater floor. Where another
--- member is the last now, nothing waits at the one that was. Of other tablets the same is noted as before
+-- a row that passes on may take another lineage at the same term, if its source and its target have that term, what each master has
+-- fits its new post and speaks no more in it, and what counts for the row now records all of it, with no greater floor. If another
+-- member is the last now, nothing waits at the member that was. Of other tablets the same is noted as before
 pub record MayTakeLineage (v : View) (row : Row) (phase : Phase) (handed : NumberMap Handed) : Type 0 where
   pub has_row : Contains v.rows row
   pub passes : PassesOn row.phase phase

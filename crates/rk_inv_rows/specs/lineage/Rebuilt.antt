@@ -1,4 +1,4 @@
--- Rebuilt: when the master that rebuilt a row may own it, so that records are made of what it told and the marks of the tablet are gone.
+-- Rebuilt: when the master that rebuilt a row may own it, so that records are made of what it reported and the tablet's marks are gone.
 use Rattle.std.specs.Prelude.{◌≡◌, ◌==◌, ◌&&◌, ℕ, true, not, if◌then◌else◌, List, [], ◌∷◌, ◌++◌, Option, Some, None, Contains, All, slice_get}
 use Rattle.rk_types.specs.declared.call.Ended.{Ended}
 use Rattle.rk_types.specs.declared.history.Placed.{Placed}
@@ -24,7 +24,7 @@ use Rattle.rk_sound.specs.Moves.{HasSome, MayTakeRebuilt, row_at}
 use Rattle.rk_inv_rows.specs.lineage.Lineages.{TellHistory}
 use Rattle.rk_inv_rows.specs.lineage.Small.{marks_taken, row_owned_in}
 
--- the record that an end makes, where it is that of its client's last call and that call has none
+-- the record that an end makes, if it is that of its client's last call and that call has none
 abbrev pub made_by : List Placed → Ended → Option LastCall → List Placed
 made_by journal end None = []
 made_by journal end (Some asked) =
@@ -38,8 +38,8 @@ made_of asked journal [] = []
 made_of asked journal (end ∷ ends) =
     let made = made_by journal end (asked end.client) in made ++ made_of asked (journal ++ made) ends
 
--- a rebuild is taken: the row is owned by the master that rebuilt it, the ends that this told make records, and no log has a mark of the
--- tablet any more
+-- a rebuild is taken: the row is owned by the master that rebuilt it, the ends that this reported make records, and no log has a mark of
+-- the tablet any more
 abbrev pub rebuilt_taken_in : World → Row → ℕ → ℕ → List Ended → World
 rebuilt_taken_in w row to place ends =
     with_ledger (row_owned_in w row to place) (without_marks (with_ends w.ledger ends) row.tablet row.term)
@@ -56,8 +56,8 @@ pub record MakeRecords (v : View) (range : Range) (ends : List Ended) : Type 0 w
       (i j : ℕ) (a b : Placed) → slice_get (journal_with v ends) i ≡ Some a → slice_get (journal_with v ends) j ≡ Some b
       → AreOneMutation a.call b.call → i ≡ j
 
--- the master that rebuilt a row may own it, where records are made of the ends that it told: then what counts of its own log tells all
--- of the row, its records and its ends have all of it, and what counts for each other row tells all of that one still
+-- the master that rebuilt a row may own it, if records are made of the ends that it reported: then what counts of its own log records all
+-- of the row, its records and its ends have all of it, and what counts for each other row still records all of that one
 pub record MayOwnRebuilt (v : View) (row : Row) (lineage : List Member) (to place : ℕ) (ends : List Ended) : Type 0 where
   pub taken : MayTakeRebuilt v row lineage to place ends
   pub ranges : All (λ other. HasSome other.range) v.rows

@@ -11,7 +11,7 @@ use Rattle.rk_world.specs.Written.{Written}
 use Rattle.rk_world.specs.World.{World, with_coordinator}
 use Rattle.rk_sound.specs.View.{View}
 
--- a row takes another lineage, and this is what sources told now
+-- a row takes another lineage, and this is what sources have handed over now
 abbrev pub lineage_taken : View → Row → NumberMap Handed → View
 lineage_taken v row handed = record v { rows = replaced row.tablet row v.rows; handed = handed }
 

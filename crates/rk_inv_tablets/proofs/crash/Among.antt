@@ -1,4 +1,4 @@
--- What stands in lists that are made of others: of each element's list, and of the numbers that entries name.
+-- What is in lists that are made of others: of each element's list, and of the numbers that entries name.
 use Rattle.std.proofs.Common.{ℕ, List, [], Contains, flat_map}
 use Rattle.rk_inv_base.proofs.Words.{Range, Entry, named, named_by}
 use Rattle.rk_inv_tablets.proofs.ready.OwnItems.{flat_stands, number_stands, named_from as joined_named}

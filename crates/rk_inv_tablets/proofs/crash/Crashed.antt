@@ -1,5 +1,5 @@
 -- A lane stays sound when a master crashes while another one lives: what is said of living masters is said of fewer, and what the dead
--- one had merged of a rebuild that was not taken tells nothing new.
+-- one had merged of a rebuild that was not taken records nothing new.
 use Rattle.std.proofs.Common.{arith, ◌≡◌, ◌≤◌, ℕ, true, false, List, [], ◌∷◌, length, refl, sym, ap, ◌∙◌, ⊎_elim, inl, inr, All, Contains}
 use Rattle.std.proofs.Common.{slice_index_or, ◌==◌, eq-eqb, ne_eqb, ◌<◌}
 use Rattle.rk_inv_base.proofs.Words.{cases_Bool, cases_eq, false≢true, or_left, or_right, All-contains, All-weaker, Contains-get_or}

@@ -1,4 +1,4 @@
--- What is read of the main segments of a log, where each was read up to some place, and whole where a later one was read: first entries
+-- What is read of the main segments of a log, when each was read up to some place, and whole if a later one was read: first entries
 -- of the log, each of which is stored.
 use Rattle.std.proofs.Common.{◌≡◌, ℕ, zero, suc, ◌+◌, ◌<◌, ◌≤◌, ◌⊎◌, inl, inr, Bool, true, List, [], ◌∷◌, ◌++◌, length, get_or, Result}
 use Rattle.std.proofs.Common.{Ok, Err, refl, sym, ap, subst, ◌∙◌, ⊎_elim, arith, lit<, append_assoc, length-append, nat_le, All, flat_map}

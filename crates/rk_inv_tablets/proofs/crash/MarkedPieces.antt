@@ -1,4 +1,4 @@
--- What counts of the marked entries of a living master that rebuilds a row stands in the piece that it merged.
+-- What counts of the marked entries of a living master that rebuilds a row is in the piece that it merged.
 use Rattle.std.proofs.Common.{◌≡◌, ◌<◌, ◌≤◌, ◌+◌, ℕ, suc, true, List, [], ◌∷◌, Some, refl, ap, ◌∙◌, arith, All, Contains, is_some}
 use Rattle.std.proofs.Common.{slice_get}
 use Rattle.rk_inv_base.proofs.Words.{cond_both, false≢true, All-cons, All-nil, Range, Entry, row_of, Row, is_marked, counting}

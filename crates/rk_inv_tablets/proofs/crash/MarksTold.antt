@@ -1,5 +1,5 @@
--- What a master that crashes had merged of a rebuild tells nothing that is not told by its own unmarked entries, and by those of the other
--- member that backup 1 stores.
+-- What a master that crashes had merged of a rebuild records nothing that is not recorded by its own unmarked entries, and by those of the
+-- other member that backup 1 stores.
 use Rattle.std.proofs.Common.{◌≡◌, ℕ, zero, ◌<◌, ◌≤◌, true, false, ◌&&◌, eqb, leb, List, [], ◌∷◌, ◌++◌, filter, length, refl, sym, ap}
 use Rattle.std.proofs.Common.{subst, ◌∙◌, ⊎_elim, arith, ◌-◌, drop, nat_lt, not, slice_index_or, take, ◌==◌, All, Contains, flat_map}
 use Rattle.std.proofs.Common.{eq-eqb}

@@ -1,4 +1,4 @@
--- What a rebuild merged tells nothing that is not told by what it read: neither its copies nor the entry that closes it.
+-- What a rebuild merged records nothing that is not recorded by what it read: neither its copies nor the entry that closes it.
 use Rattle.std.proofs.Common.{◌≡◌, ◌≤◌, ℕ, zero, List, [], ◌∷◌, ◌++◌, map, Option, Some, None, refl, subst, ⊎_elim, arith, All, Contains}
 use Rattle.std.proofs.Common.{not, flat_map}
 use Rattle.rk_inv_base.proofs.Words.{cond_both, flat_map-append, All-append, All-cons, All-contains, All-filter, All-head, All-map, All-nil}

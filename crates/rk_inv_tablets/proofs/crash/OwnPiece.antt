@@ -1,4 +1,4 @@
--- What a living master has in marked pieces of a row that it rebuilds tells nothing that is not told by others, where what it read does not.
+-- What a living master has in marked pieces of a row that it rebuilds records nothing that others do not, if what it read does not.
 use Rattle.std.proofs.Common.{◌≡◌, ◌<◌, ◌≤◌, ◌+◌, ℕ, suc, true, List, [], ◌∷◌, ◌++◌, drop, Some, refl, subst, Contains, IfSome, slice_get}
 use Rattle.std.proofs.Common.{ap, ap, arith, ◌∙◌, ◌==◌}
 use Rattle.rk_inv_base.proofs.Words.{false≢true, All-contains, Member, Entry, Handover, Role, Phase, Rebuilding, Row, by_member, as_entries}

@@ -1,4 +1,4 @@
--- What counts of a member that was read tells nothing that others do not, where they tell what backup 1 stores of it, what its side
+-- What counts of a member that was read records nothing that others do not, if they record what backup 1 stores of it, what its side
 -- segments have, and what is marked there.
 use Rattle.std.proofs.Common.{◌≡◌, ℕ, ◌+◌, ◌<◌, ◌≤◌, true, false, List, [], ◌++◌, length, Some, refl, sym, subst, ◌∙◌}
 use Rattle.std.proofs.Common.{⊎_elim, arith, drop, slice_get, All, Contains, flat_map}

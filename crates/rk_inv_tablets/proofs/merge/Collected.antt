@@ -1,4 +1,4 @@
--- What a rebuild has gathered, once all is, tells no end that the truth or the rest of its row does not tell, and so does what it merges.
+-- What a rebuild has gathered, once all is, records no end that the truth or the rest of its row does not, and so does what it merges.
 use Rattle.std.proofs.Common.{◌≡◌, ℕ, zero, suc, ◌≤◌, ◌⊎◌, Bool, true, false, cond, List, [], ◌∷◌, ◌++◌, filter, length, None, refl, sym}
 use Rattle.std.proofs.Common.{ap, ◌∙◌, subst, ⊎_elim, inl, inr, arith, ◌==◌, All, not, Contains, eq-eqb, eqb-true, ◌<◌, max, take, flat_map}
 use Rattle.rk_inv_base.proofs.Words.{cond_both, cond-true, false≢true, or_from, All-append, All-contains, All-contains_itself, All-nil}

@@ -1,4 +1,4 @@
--- The part Logs where a master appends a piece of more entries than one.
+-- The part Logs when a master appends a piece of more entries than one.
 use Rattle.std.proofs.Common.{◌≡◌, ◌≢◌, ℕ, ◌-◌, ◌<◌, ◌≤◌, true, List, [], ◌∷◌, ◌++◌, length, get_or, All, refl, sym, ap, ◌∙◌, subst, ⊎_elim}
 use Rattle.std.proofs.Common.{arith, append_assoc, lt-ltb, ltb-true, append-nil, length-append, length-set}
 use Rattle.rk_inv_base.proofs.Words.{cases_eq, cases_lt, cond_both, get_or_past, All-append, All-push, All-weaker, Node, spelled, Entry}

@@ -1,5 +1,5 @@
--- A view stays sound when a rebuild merges what it gathered: its piece bears the only mark of the tablet there, its master does not speak for
--- the row and is no target, and the ends that it keeps are told by the truth or the rest of the row.
+-- A view stays sound when a rebuild merges what it gathered: its piece bears the only mark of the tablet there, its master does not speak
+-- for the row and is no target, and the ends that it keeps are recorded by the truth or the rest of the row.
 use Rattle.std.proofs.Common.{arith, ℕ, [], ◌∷◌, refl, ◌≡◌, zero, suc, ◌-◌, List, ◌++◌, filter, length, sym, ap, ◌∙◌, ⊎_elim, length-append}
 use Rattle.std.proofs.Common.{All, drop, take, flat_map, true, inr, ◌⊎◌, Some, inl, Contains, eq-eqb, IfSome, ◌≤◌}
 use Rattle.rk_inv_base.proofs.Words.{All-cons, All-head, Node, Body, Rebuilt, RebuiltIn, View, cases_eq, EachIn, All-nil, take-append-le}

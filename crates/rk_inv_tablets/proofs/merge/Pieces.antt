@@ -1,4 +1,4 @@
--- A piece that is appended to a log, and bears a mark: it is not seen where marked entries are left out.
+-- A piece that is appended to a log, and bears a mark: it is not seen when marked entries are left out.
 use Rattle.std.proofs.Common.{◌≡◌, ℕ, zero, suc, ◌+◌, ◌≤◌, ◌<◌, Bool, true, false, ◌&&◌, cond, leb, ltb, List, [], ◌∷◌, ◌++◌, length, Some}
 use Rattle.std.proofs.Common.{refl, sym, ap, ◌∙◌, ⊎_elim, arith, filter, length-drop, length-take, drop, take, slice_get, flat_map, le-leb}
 use Rattle.std.proofs.Common.{lt-ltb, take_all, ◌-◌}

@@ -1,4 +1,4 @@
--- What is seen of a world where one master has other records and tablets, and what it has of each tablet once others are given up.
+-- What is seen of a world in which one master has other records and tablets, and what it has of each tablet once others are given up.
 use Rattle.std.proofs.Common.{arith, ◌≡◌, ℕ, List, Option, cond, refl, ap, ◌∙◌, ◌==◌, ◌&&◌, not, unwrap_or, option_map, eq-eqb}
 use Rattle.rk_inv_base.proofs.Words.{and_left, cases_eq, cond_both, cond-false, NumberMap, get, meets, Held, Range}
 use Rattle.rk_inv_base.proofs.Words.{given_up, with_others_given_up, marks_of, Master, tablet_at, with_tablet, Tablet, no_tablet, World}

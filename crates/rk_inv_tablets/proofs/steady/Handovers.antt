@@ -1,4 +1,4 @@
--- What targets have sealed stays there where a master takes a message that hands a tablet over.
+-- What targets have sealed stays there when a master takes a message that hands a tablet over.
 use Rattle.std.proofs.Common.{arith, ◌&&◌, ◌==◌, ℕ, cond, not, [], length, Option, None, Some}
 use Rattle.rk_inv_base.proofs.Words.{All-nil, meets, Range, completions_from, closed, granted, owned, prepared, released, Handover, Role}
 use Rattle.rk_inv_base.proofs.Words.{Grant, Prepare, Tenure, carried_entry, close_taken, closing, given_up, grant_taken, granting}

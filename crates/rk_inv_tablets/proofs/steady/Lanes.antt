@@ -1,4 +1,4 @@
--- Each backup of a lane tells what it stores, and what targets have sealed is there: in a new lane, after each event, and after a
+-- Each backup of a lane reports what it stores, and what targets have sealed is there: in a new lane, after each event, and after a
 -- client's turn or answer.
 use Rattle.std.proofs.Common.{◌≡◌, ◌≤◌, ◌&&◌, ℕ, true, [], length, Option, None, Some, refl, ap, arith, is_some, nat_le, unwrap_or}
 use Rattle.rk_inv_base.proofs.Words.{cases_eq, nat_tests, All-nil, get_other, get_same, IsInOrder, get, get_or, Range, Segments, Called}

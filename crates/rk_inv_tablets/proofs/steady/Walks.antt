@@ -1,4 +1,4 @@
--- What each event and each client keeps of a lane's masters and backups, where each of the parts keeps it.
+-- What each event and each client keeps of a lane's masters and backups, if each of the parts keeps it.
 use Rattle.std.proofs.Common.{arith, ◌+◌, ℕ, Option, None, Some}
 use Rattle.rk_inv_base.proofs.Words.{NumberMap, insert, Call, Node, Range, Segments, row_of, Phase, Row, Message, Called, accept, accept_by}
 use Rattle.rk_inv_base.proofs.Words.{ask, ask_by, asking, asking_by, fits_with, is_asked_here, taking, untouched, Session, session_turn}

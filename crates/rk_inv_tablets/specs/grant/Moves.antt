@@ -7,7 +7,7 @@ use Rattle.rk_message.specs.declared.handover.Grant.{Grant}
 use Rattle.rk_sound.specs.View.{View}
 use Rattle.rk_sound.specs.Moves.{MayGrant}
 
--- a target of a row may take a grant of the row's tablet, where it may be granted that. That the ends of a grant rise by client, and
+-- a target of a row may take a grant of the row's tablet, if it may be granted that. That the ends of a grant rise by client, and
 -- that no range of a row is empty, is so in each lane that is well formed
 pub record MayGrantFormed (v : View) (row : Row) (source target : Member) (grant : Grant) : Type 0 where
   pub may : MayGrant v row source target grant

@@ -16,8 +16,8 @@ use Rattle.rk_sound.specs.Small.{put, put2, with_one_more}
 abbrev pub as_granted : ℕ → Handover → Handover
 as_granted counter handover = record handover { role = roles.Receiving; counter = counter }
 
--- a target is granted its tablet: an entry that carries what its source told is appended to its log, the floor is its counter and the
--- ends are its completions, and it pulls from the first token on
+-- a target is granted its tablet: an entry that carries what its source handed over is appended to its log, the floor is its counter and
+-- the ends are its completions, and it pulls from the first token on
 abbrev pub granted : View → ℕ → ℕ → Grant → View
 granted v master tablet grant = record v {
   logs = put v.logs master (with_entry (v.logs master) (carried_entry (v.handovers master tablet) grant));

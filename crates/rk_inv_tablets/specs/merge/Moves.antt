@@ -10,11 +10,11 @@ use Rattle.rk_sound.specs.Rebuilds.{closing_carried}
 use Rattle.rk_inv_tablets.specs.crash.Moves.{AreReadable}
 use Rattle.rk_inv_tablets.specs.merge.Small.{merge_in}
 
--- an end is told by the truth of a row, or by its rest
+-- an end is recorded by the truth of a row, or by its rest
 abbrev pub IsToldIn : View → Row → Ended → Type 0
 IsToldIn v row end = Contains (told (truths v row)) end ⊎ Contains (told (rests v row)) end
 
--- what was gathered for a tablet may be merged at a master, where that is so. That no range of a row is empty, that logs can be read
+-- what was gathered for a tablet may be merged at a master, if that is so. That no range of a row is empty, that logs can be read
 -- again, and that the master has gathered no more main segments than there can be, is so in each lane that is well formed
 pub record MayMergeFormed (v : View) (master tablet : ℕ) : Type 0 where
   pub may :

@@ -43,7 +43,7 @@ piece_mark master tablet term first copies = record {
   term = term;
 }
 
--- a handover of a master that merged: its closing entry stands at a place, and the floor is the counter
+-- a handover of a master that merged: its closing entry is at a place, and the floor is the counter
 abbrev pub as_merged : ℕ → ℕ → Handover → Handover
 as_merged place floor handover =
     record handover { role = roles.Rebuilding (own_place handover.role) (Some place); counter = floor }

@@ -37,7 +37,7 @@ sides_cut v master lists = record v {
 abbrev pub as_joining : Handover → Handover
 as_joining handover = record handover { role = roles.Joining None }
 
--- what a target pulled, where these side segments have its items
+-- what a target pulled, when these side segments have its items
 abbrev pub as_sealed : List ℕ → Pulling → Pulling
 as_sealed numbers pulling = record pulling { hashes = no_hashes; sides = [] ∷ [] ∷ [] ∷ [] ∷ []; sealed = numbers }
 

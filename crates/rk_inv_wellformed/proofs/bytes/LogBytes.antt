@@ -1,5 +1,5 @@
--- How many bytes a master's segments and side logs have after a step: where nothing is appended no more than before, and an entry more
--- where one is.
+-- How many bytes a master's segments and side logs have after a step: if nothing is appended no more than before, and an entry more
+-- if one is.
 use Rattle.std.proofs.Common.{◌≡◌, ◌≤◌, ◌+◌, ◌==◌, ◌&&◌, ℕ, cond, not, List, [], ◌∷◌, length, map, sum, refl, sym, subst, arith, Bool}
 use Rattle.rk_inv_wellformed.proofs.Words.{sum-map, sum_by-append, sum_by-cons, IsInOrder, meets, Held, Range, spelled_all, spelled, Entry}
 use Rattle.rk_inv_wellformed.proofs.Words.{given_up, with_others_given_up, Master, log_bytes, tablet_at, unsealed_bytes, with_appended}

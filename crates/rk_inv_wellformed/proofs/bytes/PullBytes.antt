@@ -1,5 +1,5 @@
 -- How many bytes a master has after it took a batch, or the items that it asked for first: no more than before and what came, and an entry
--- that closes where all has come.
+-- that closes once all has come.
 use Rattle.std.proofs.Common.{◌≡◌, ◌≤◌, ◌+◌, ◌%◌, ◌&&◌, ℕ, List, [], ◌∷◌, ◌++◌, fold, length, map, nat_le, sum, refl, sym, subst, ap, arith}
 use Rattle.std.proofs.Common.{length-append, slice_index_or, sum_by, flat_map}
 use Rattle.rk_inv_wellformed.proofs.Words.{cases_lt, sum-map, sum_by-append, sum_by-cons, in_order_insert, spelled_of, IsInOrder, NumberMap}

@@ -1,4 +1,4 @@
--- How many bytes a master has after its turn: no more than before; and after what a backup tells: no more than before and the entries by
+-- How many bytes a master has after its turn: no more than before; and after what a backup reports: no more than before and the entries by
 -- which tablets close that wait for their side segments.
 use Rattle.std.proofs.Common.{not, map, List, ◌&&◌, ◌≡◌, ◌≤◌, ◌+◌, ◌*◌, ℕ, length, max, All, [], ◌∷◌, Option, None, Some, refl, sym, ap}
 use Rattle.std.proofs.Common.{subst, ◌∙◌, ⊎_elim, arith, sum_by, slice_index_or}

@@ -1,4 +1,4 @@
--- What the coordinator makes of a message, of its turn and of a tablet that begins to move, is added or split: where the coordinator is well
+-- What the coordinator makes of a message, of its turn and of a tablet that begins to move, is added or split: if the coordinator is well
 -- formed, it stays so, all that it sends is well formed, and what its rows covered is covered; and so is the master of such a tablet.
 use Rattle.std.proofs.Common.{◌≡◌, ◌≤◌, ◌+◌, ℕ, w32, w64, Bool, ◌==◌, List, [], ◌∷◌, All, IfSome, find, length, Option, None, Some, refl}
 use Rattle.std.proofs.Common.{arith, true, false, cond, is_some, nat_le, nat_lt, sym, ap, subst, unwrap_or, leb-true, ltb-true}

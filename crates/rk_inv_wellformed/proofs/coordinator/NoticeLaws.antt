@@ -1,4 +1,4 @@
--- The notice of a crash: the coordinator stays well formed, where one of the masters lives. Each row that has lost a master gets one that
+-- The notice of a crash: the coordinator stays well formed, if one of the masters lives. Each row that has lost a master gets a master that
 -- is there, so all that it covered is covered.
 use Rattle.std.proofs.Common.{◌≡◌, ◌≤◌, ◌<◌, ◌+◌, ℕ, zero, suc, Bool, true, false, not, cond, ◌==◌, ◌&&◌, ◌||◌, List, [], ◌∷◌, ◌++◌, All}
 use Rattle.std.proofs.Common.{IfSome, length, filter, find, get_or, fold, map, Option, None, Some, refl, sym, ap, subst, ◌∙◌, arith}

@@ -1,4 +1,4 @@
--- A lane stays well formed in whatever happens, where what its nodes make of it is well formed.
+-- A lane stays well formed in whatever happens, if what its nodes make of it is well formed.
 use Rattle.std.proofs.Common.{◌≡◌, ℕ, None, refl, Result, Ok, Err}
 use Rattle.rk_inv_wellformed.proofs.Words.{Called, Visited, accept, ask, Session, IsWellFormed, refusal, HasRoom, Accepts, Asks, Happens}
 use Rattle.rk_inv_wellformed.proofs.Words.{MayOccur, after, happened, World, StepError, Event, world_stepped, stepped_by}

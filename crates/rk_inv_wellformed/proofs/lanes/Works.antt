@@ -1,5 +1,5 @@
--- What an event makes of a lane, by who takes part in it; and a lane stays well formed when a master, the coordinator or a backup has worked,
--- where its work is well formed within the limits after it.
+-- What an event makes of a lane, by who takes part in it; and a lane stays well formed when a master, the coordinator or a backup has
+-- worked, if its work is well formed within the limits after it.
 use Rattle.std.proofs.Common.{◌≡◌, ◌≤◌, ◌<◌, ℕ, true, List, [], length, map, All, Option, None, refl, sym, subst, arith, ◌+◌, Some}
 use Rattle.rk_inv_wellformed.proofs.Words.{get_same, Segments, Message, Rebuilt, Backed, Coordinator, IsFormedLedger, IsFormedMaster}
 use Rattle.rk_inv_wellformed.proofs.Words.{IsWellFormed, last_stamp, Ledger, is_added, with_rebuilt, IsFormedMessage, Limits, limits_of}

@@ -1,4 +1,4 @@
--- Lists: what holds of each element of a list stays so where the list is joined, parted, changed, found in or folded over.
+-- Lists: what holds of each element of a list stays so when the list is joined, parted, changed, found in or folded over.
 use Rattle.std.proofs.Common.{◌≡◌, ℕ, zero, suc, Bool, true, false, cond, List, [], ◌∷◌, ◌++◌, fold, All, Option, None, Some, IfSome}
 use Rattle.std.proofs.Common.{flat_map, refl, subst, find, slice_get, slice_index_or, arith, filter, length, length-append, ◌≤◌, ◌<◌, ◌+◌}
 use Rattle.std.proofs.Common.{sym, ◌∙◌, not}

@@ -1,4 +1,4 @@
--- Sums over a map by number: what they are where one thing more is put there.
+-- Sums over a map by number: what they are when one thing more is put there.
 use Rattle.std.proofs.Common.{◌≡◌, ◌≤◌, ◌+◌, ℕ, cond, T, [], ◌∷◌, map, sum, Option, None, Some, refl, sym, arith, sum_by, is_eq, nat_cmp}
 use Rattle.std.proofs.Common.{unwrap_or, Equal, Less, Greater}
 use Rattle.rk_inv_wellformed.proofs.Words.{ranked, sum-map, sum_by-cons, below_all, by_order, changed_each, IsInOrder, NumberMap, get}

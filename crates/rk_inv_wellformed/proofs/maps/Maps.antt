@@ -1,4 +1,4 @@
--- Maps by number: what each thing of a map has, each of its pairs has, and the other way round; and a map where each thing changed.
+-- Maps by number: what each thing of a map has, each of its pairs has, and the other way round; and a map in which each thing changed.
 use Rattle.std.proofs.Common.{option_map, ◌≡◌, ◌<◌, ◌≤◌, ◌+◌, ℕ, Bool, true, false, ◌&&◌, cond, T, All, [], ◌∷◌, Some, IfSome, refl, sym}
 use Rattle.std.proofs.Common.{subst, ◌∙◌, arith, eq-eqb, ne_eqb, find, is_lt, length, nat_cmp, unwrap_or, Equal, Less, Greater}
 use Rattle.rk_inv_wellformed.proofs.Words.{cond-false, ranked, cond-true, All-cons, All-head, All-nil, All-tail, unsigned_tied, below_all}

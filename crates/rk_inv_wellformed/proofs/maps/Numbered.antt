@@ -1,4 +1,4 @@
--- Maps whose numbers follow one another from 1: something is found under each of them, and they stay when something else stands
+-- Maps whose numbers follow one another from 1: something is found under each of them, and they stay when something else is put
 -- under one of them.
 use Rattle.std.proofs.Common.{◌≡◌, ◌≤◌, ◌<◌, Less, Equal, Greater, ℕ, zero, suc, ◌+◌, ◌==◌, true, cond, T, List, [], ◌∷◌, map, Some}
 use Rattle.std.proofs.Common.{is_some, refl, sym, ap, subst, ◌∙◌, ⊎_elim, arith, is_eq, is_lt, nat_cmp, eq-eqb}

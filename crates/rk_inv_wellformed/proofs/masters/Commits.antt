@@ -1,4 +1,4 @@
--- What a master makes of what a backup tells is well formed: what every backup holds by then is applied, and what waited goes on.
+-- What a master makes of what a backup reports is well formed: what every backup holds by then is applied, and what waited goes on.
 use Rattle.std.proofs.Common.{◌≡◌, ◌≤◌, ◌<◌, ◌+◌, ℕ, All, List, [], ◌∷◌, length, take, Option, None, Some, refl, sym, ap, subst, arith}
 use Rattle.std.proofs.Common.{length-drop, length-take, IfSome}
 use Rattle.rk_inv_wellformed.proofs.Words.{All-take, cond_both, All-drop, All-head, All-tail, in_order_changed, NumberMap, changed_each}

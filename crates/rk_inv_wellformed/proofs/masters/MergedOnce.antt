@@ -1,5 +1,5 @@
--- The ends that a rebuild merges are of distinct clients: each is that of its client's greatest seq, and stands with the last member
--- that tells it, where it comes first. So there are no more of them than clients.
+-- The ends that a rebuild merges are of distinct clients: each is that of its client's greatest seq, and is with the last member
+-- that records it, at its first place there. So there are no more of them than clients.
 use Rattle.std.proofs.Common.{◌≡◌, ◌==◌, ◌&&◌, ℕ, true, false, nat_eq, nat_lt, List, [], ◌∷◌, ◌++◌, map, All, Option, refl, subst}
 use Rattle.std.proofs.Common.{sym, ◌∙◌, arith, flat_map}
 use Rattle.rk_inv_wellformed.proofs.Words.{and_parts, nat_tests, All-append, All-cons, All-head, All-map, All-nil, All-tail}

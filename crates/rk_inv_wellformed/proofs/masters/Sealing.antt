@@ -1,5 +1,5 @@
--- A target that replays what it pulled stays well formed; and one that has pulled all seals its side logs: the side segments that it makes
--- are well formed, and so is the master then.
+-- A target that replays what it pulled stays well formed; and a target that has pulled all seals its side logs: the side segments that it
+-- makes are well formed, and so is the master then.
 use Rattle.std.proofs.Common.{◌≡◌, ◌≤◌, ◌<◌, ◌+◌, ◌%◌, ◌&&◌, ℕ, Bool, false, true, List, [], ◌∷◌, ◌++◌, fold, map, sum, All, length}
 use Rattle.std.proofs.Common.{length-append, None, refl, ap, subst, sym, arith, w64, nat_eq, ne_eqb, leb-true, length-set, ◌∙◌}
 use Rattle.std.proofs.Common.{slice_index_or}

@@ -1,5 +1,5 @@
 -- What a master makes of a message or of its turn, when that is well formed: the master after it and all that it sends are, and it sends
--- and serves no more than is told. Numbers up to the greatest fit their widths, and so do what messages of a master tell.
+-- and serves no more than is stated. Numbers up to the greatest fit their widths, and so do those that messages of a master carry.
 use Rattle.std.proofs.Common.{◌≤◌, ◌<◌, ◌+◌, ◌^◌, ◌⊎◌, ℕ, List, [], length, length-append, All, refl, arith, ◌≡◌, ◌∷◌, ◌%◌, ◌*◌, sym, subst}
 use Rattle.std.proofs.Common.{lit<, mod-lt, bit_xor, w64}
 use Rattle.rk_inv_wellformed.proofs.Words.{All-append, All-nil, MOST_BACKUPS, Message, IsFormedMaster, MOST_BASE_CLIENTS, IsFormedMessage}

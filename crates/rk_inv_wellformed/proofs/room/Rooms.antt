@@ -1,4 +1,4 @@
--- A lane with room keeps it when a client takes an answer, and where the lane is not worn when one asks.
+-- A lane with room keeps it when a client takes an answer, and if the lane is not worn also when one asks.
 use Rattle.std.proofs.Common.{◌≡◌, ◌≤◌, ◌<◌, ℕ, ◌+◌, max, [], ◌∷◌, ◌∙◌, All, Option, None, Some, refl, sym, subst, arith, Ok}
 use Rattle.rk_inv_wellformed.proofs.Words.{get, Call, Body, Message, Visited, accept, ask, ClientTurn, Session}
 use Rattle.rk_inv_wellformed.proofs.Words.{IsWellFormed, last_stamp, Ledger, is_added, seen_of, WORN_NUMBER, where_true, worn, HasRoom}

@@ -1,5 +1,5 @@
--- How far one step may raise the numbers: a master that takes a message raises counters by one, and it, the coordinator and a backup send few
--- messages, serve few calls and tell few ends.
+-- How far one step may raise the numbers: a master that takes a message raises counters by one, and it, the coordinator and a backup send
+-- few messages, serve few calls and report few ends.
 use Rattle.std.proofs.Common.{◌≤◌, ◌<◌, ◌+◌, ◌^◌, ◌&&◌, ◌%◌, ℕ, All, List, length, length-append, Option, None, Some, arith, IfSome, inl}
 use Rattle.std.proofs.Common.{[], ◌∷◌, fold}
 use Rattle.rk_inv_wellformed.proofs.Words.{All-from_recursion, cond_both, Node, Phase, Opening, Row, overreach, Body, Rebuilt, Called}

@@ -8,7 +8,7 @@ use Rattle.rk_world.specs.declared.event.Event.TheVariants as events
 abbrev pub HasMessage : Traffic → Type 0
 HasMessage wire = number_at 1 wire ≢ None
 
--- a wire later: no fewer messages were sent on it, and where more were, one is on it
+-- a wire later: no fewer messages were sent on it, and if more were, one is on it
 pub record SendsNoFewer (before after : Traffic) : Type 0 where
   pub sent : before.sent ≤ after.sent
   pub there : before.sent < after.sent → HasMessage after

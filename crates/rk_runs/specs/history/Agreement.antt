@@ -15,13 +15,13 @@ IsRecordedIn ledgers receipt =
     slice_get (ledgers receipt.lane).journal receipt.place
     ≡ Some (record { call = receipt.call; outcome = receipt.outcome; stamp = receipt.stamp; accepted = true })
 
--- one of these receipts tells a record of a lane
+-- one of these receipts gives a record of a lane
 pub record IsToldBy (receipts : List Receipt) (lane : ℕ) (placed : Placed) : Type 0 where
   pub receipt : Receipt
   pub stands : Contains receipts receipt
   pub tells : told_by receipt ≡ answer_of (record { lane = lane; placed = placed })
 
--- each accepted record of a client is told by one of its receipts
+-- each accepted record of a client is given by one of its receipts
 abbrev pub AreTold : List Receipt → ℕ → ℕ → List Placed → Type 0
 AreTold receipts client lane journal =
     All (λ placed. placed.accepted ≡ true → placed.call.client ≡ client → IsToldBy receipts lane placed) journal
@@ -57,7 +57,7 @@ pub record Agrees (ledgers : ℕ → Ledger) (client : ℕ) (session : Session) 
   -- the stamps of its receipts rise, and it has seen them
   pub rising : AreRisingAbove 0 session.receipts
   pub seen : All (λ receipt. receipt.stamp ≤ session.seen) session.receipts
-  -- its receipts and the accepted records of its calls tell of each other
+  -- its receipts and the accepted records of its calls correspond to each other
   pub recorded : All (IsRecordedIn ledgers) session.receipts
   pub told : (lane : ℕ) → AreTold session.receipts client lane (ledgers lane).journal
   -- what it asked last in a lane is accepted there, or outstanding

@@ -11,7 +11,7 @@ use Rattle.rk_world.specs.World.{World}
 use Rattle.rk_world.specs.declared.event.Event.{Event}
 use Rattle.rk_world.specs.declared.event.Event.TheVariants as events
 
--- a record stands at its place in a journal still, and is accepted where it was
+-- a record is still at its place in a journal, and is accepted if it was
 pub record IsStill (journal : List Placed) (place : ℕ) (placed : Placed) : Type 0 where
   pub now : Placed
   pub stands : slice_get journal place ≡ Some now
@@ -20,17 +20,17 @@ pub record IsStill (journal : List Placed) (place : ℕ) (placed : Placed) : Typ
   pub stamp : now.stamp ≡ placed.stamp
   pub kept : placed.accepted ≡ true → now.accepted ≡ true
 
--- each record of a journal stands in a later one still
+-- each record of a journal is still in a later one
 abbrev pub StandsStill : List Placed → List Placed → Type 0
 StandsStill before after =
     (place : ℕ) (placed : Placed) → slice_get before place ≡ Some placed → IsStill after place placed
 
--- the records of all lanes stand in a later cluster still
+-- the records of all lanes are still in a later cluster
 abbrev pub RecordsStay : Cluster → Cluster → Type 0
 RecordsStay before after =
     (lane : ℕ) → StandsStill (lane_at before lane).ledger.journal (lane_at after lane).ledger.journal
 
--- what a receipt tells stands in the journal of its lane, at its place, accepted
+-- what a receipt states is in the journal of its lane, at its place, accepted
 abbrev pub IsKeptIn : Cluster → Receipt → Type 0
 IsKeptIn cluster receipt =
     slice_get (lane_at cluster receipt.lane).ledger.journal receipt.place
