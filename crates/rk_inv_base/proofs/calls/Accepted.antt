@@ -11,7 +11,7 @@ use Rattle.rk_inv_base.proofs.calls.SameRecords.{AreSameRecords, IsSameRecord, a
 use Rattle.rk_inv_base.proofs.calls.SameRecords.{has_record_same, legal_same, map_after_same, reached_same, record_after, record_before}
 use Rattle.rk_inv_base.proofs.calls.SameRecords.{record_of_same, records_behind, rising_same}
 
--- a record that stands in a journal stands at a place of it
+-- a record that is in a journal is at a place of it
 pub stands_at : (journal : List Placed) (placed : Placed) → Contains journal placed → (k : ℕ) × (slice_get journal k ≡ Some placed)
 stands_at journal placed (k, within, is) = (k, slice_get-get_or journal k placed within ∙ ap Some is)
 
@@ -26,7 +26,7 @@ module _ (v : View) (place : ℕ) (sound : SoundView v) (may : MayAccept v place
   same : AreSameRecords v.journal after
   same = accepted_same v.journal place may.placed may.stands
 
-  -- each record stands there still
+  -- each record is still there
   stands_still : (old : Placed) → Contains v.journal old → (new : Placed) × Contains after new × IsSameRecord old new
   stands_still old stands =
       let at = stands_at v.journal old stands in
@@ -65,7 +65,7 @@ module _ (v : View) (place : ℕ) (sound : SoundView v) (may : MayAccept v place
       (tell (ap (λ (c : Call). has_key range c.table c.key) (sym is.call) ∙ inside) (ap (λ (c : Call). is_mutation c.op) (sym is.call) ∙ mutation))))
       v.journal after same
 
-  -- a Reply tells the same record
+  -- a Reply names the same record
   told_still : (client : ℕ) (reply : Reply) (outcome : Outcome) → IsRecordAt v.journal client reply outcome → IsRecordAt after client reply outcome
   told_still client reply outcome fits = grind (arith, record_after, same)
 

@@ -39,7 +39,7 @@ within_rows rows row call entry own stands has = grind (arith, covered_by, hash_
 pub whole_rows : (rows : List Row) (call : Call) (entry : Entry) → IsEntryOf call entry → IsOfWholeRows rows entry
 whole_rows rows call entry own = grind arith
 
--- behind the rest of a row stands an item that is above all that counts for it, or none
+-- the rest of a row gets an item at its end that is above all that counts for the row, or none
 pub above_pushed : (truth rest : List Entry) (call : Call) (entry : Entry) → IsEntryOf call entry → All (λ item. IsNext (truth ++ rest) item.version) (items_in entry) → AreAbove (items_of truth) (items_of rest) → AreAbove (items_of truth) (items_of (rest ++ entry ∷ []))
 above_pushed truth rest call entry own low above = grind (arith, items_of, flat_map-append, items_in, above_push, above_floor, append-nil)
 
@@ -70,7 +70,7 @@ module _ (v : View) (master : ℕ) (call : Call) (entry : Entry) (counter : ℕ)
   abbrev old : Handover
   old = v.handovers master may.served.row.tablet
 
-  -- where the entry stands, and the calls that wait then
+  -- the place of the entry, and the calls that wait then
   abbrev place : ℕ
   place = length (v.written master).entries
 
@@ -100,7 +100,7 @@ module _ (v : View) (master : ℕ) (call : Call) (entry : Entry) (counter : ℕ)
   rest_is : rests now row ≡ rests v row ++ entry ∷ []
   rest_is = lineage_grown v master entry sound.logs row.range (lineage_of row.phase) may.served.last was.placed may.served.is_last may.served.here inside
 
-  -- a master that counts for the row and speaks for it is the one that its phase names
+  -- a master that counts for the row and speaks for it is the speaker that its phase names
   speaker_at : (q : ℕ) → CountsFor v row q → SpeaksFor v row q → q ≡ speaker_of row.phase
   speaker_at q counts = speaker_is row q (v.handovers q row.tablet) (v.written q).applied (was.fitting q counts)
 

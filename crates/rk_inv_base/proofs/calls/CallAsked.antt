@@ -128,7 +128,7 @@ module _ (v : View) (client : ℕ) (last : LastCall) (sound : SoundView v) (may 
   pub view_asked : SoundView now
   view_asked = assumption (truth, rest, asked)
 
--- a ledger where a client asked a call has it, and what other clients asked
+-- a ledger in which a client asked a call has that call, and what other clients asked
 pub asked_put : (ledger : Ledger) (client : ℕ) (last : LastCall) (q : ℕ) → asked_by (with_asked ledger client last) q ≡ put (asked_by ledger) client (Some last) q
 asked_put ledger client last q = grind (arith, put_is, asked_by, with_asked, unwrap_or, get_same, get_other)
 

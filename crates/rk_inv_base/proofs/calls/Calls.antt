@@ -32,7 +32,7 @@ calls_alike v truths rests now old alike =
           (sym (alike q number).same_term) (old.known q number lives);
     }
 
--- what stands behind the truths tells what it told, and more; what is applied counts as before
+-- what is behind the truths records what it recorded, and more; what is applied counts as before
 pub calls_more : (v : View) (truths rests more : Row → List Entry) (written : ℕ → Written) → CallsOf v truths rests
     → ((row : Row) (end : Ended) → Contains v.rows row → Contains (told (rests row)) end → Contains (told (more row)) end)
     → ((range : Range) (member : Member) → member_truth written range member ≡ member_truth v.written range member)

@@ -8,7 +8,7 @@ use Rattle.rk_inv_base.proofs.Words.{IsTruth, Message, get, target_truth, handed
 use Rattle.rk_entry.specs.declared.entry.Entry.TheVariants as entries
 use Rattle.rk_model.specs.History.{record_of}
 
--- a journal may be replaced by one that is lawful, leaves the same map, and has a record of each mutation and each end that the first one
+-- a journal may be replaced by a lawful one that leaves the same map, and has a record of each mutation and each end that the first one
 -- had; no call gets a record that is staged
 pub record MayReplaceJournal (v : View) (after : List Placed) : Type 0 where
   pub covered : All (λ placed. is_covered v.rows placed.call.table (hash_of placed.call.key) ≡ true) after

@@ -7,7 +7,7 @@ use Rattle.rk_inv_base.proofs.calls.OtherJournals.{asked_by_other, is_request_by
 
 -- ---- places
 
--- with one more, each record stood there, or is that one, at the end
+-- with one more, each record was there, or is the new one, at the end
 pub got_cases : (journal : List Placed) (new : Placed) (i : ℕ) (placed : Placed) → slice_get (journal ++ new ∷ []) i ≡ Some placed → (slice_get journal i ≡ Some placed) ⊎ ((i ≡ length journal) × (new ≡ placed))
 got_cases journal new i placed at = slice_get_push_cases journal new placed i at
 
@@ -44,7 +44,7 @@ module _ (journal more : List Placed) where
 
   -- ---- messages
 
-  -- a Reply tells the same record
+  -- a Reply names the same record
   told_still : (client : ℕ) (reply : Reply) (outcome : Outcome) → IsRecordAt journal client reply outcome → IsRecordAt (journal ++ more) client reply outcome
   told_still client reply outcome fits = grind (arith, slice_get_front)
 

@@ -4,7 +4,7 @@ use Rattle.rk_inv_base.proofs.Words.{IsAccepted, IsRequest, RequestFits, Request
 use Rattle.rk_types.specs.declared.node.Node.TheVariants as nodes
 use Rattle.rk_message.specs.declared.message.Body.TheVariants as bodies
 
--- what Requests say, where each that fitted fits
+-- what Requests say, if each that fitted fits
 module _ (asked asked' : ℕ → Option LastCall) (journal after : List Placed) (fits : (client : ℕ) (request : Request) → RequestFits asked journal client request → RequestFits asked' after client request) where
   pub request_says_by : (from : Node) (body : Body) → RequestSays asked journal from body → RequestSays asked' after from body
   request_says_by (nodes.Client client) (bodies.Request request) says = fits client request says

@@ -19,7 +19,7 @@ AcceptsOnce journal =
 
 -- so calls of one client with one seq are one call
 module _ (journal : List Placed) (once : AcceptsOnce journal) (a b : Call) (client : a.client ≡ b.client) (seq : a.seq ≡ b.seq) where
-  -- and where both were asked
+  -- if both were asked
   one_asked : (last : Option LastCall) → WasAsked last journal a → WasAsked last journal b → a ≡ b
   one_asked last first second = grind (arith, slice_get-get_or)
 

@@ -19,7 +19,7 @@ last_member (only ∷ []) last master is here = grind (arith, or_left, eq-eqb, o
 last_member (first ∷ next ∷ more) last master is here =
     or_right (first.master == master) (is_member (next ∷ more) master) (last_member (next ∷ more) last master is here)
 
--- where none of the unmarked entries from a place on passes a test, none does with one more that does not
+-- if none of the unmarked entries from a place on passes a test, none does with one more entry that fails
 pub unmarked_push : (p : Entry → Bool) (marks : List Mark) (place : ℕ) (list : List Entry) (entry : Entry) → p entry ≡ false → list_any p (unmarked_from marks place list) ≡ false → list_any p (unmarked_from marks place (list ++ entry ∷ [])) ≡ false
 unmarked_push p marks place list entry fails none =
     ⊎_elim
@@ -33,12 +33,12 @@ unmarked_push p marks place list entry fails none =
     one_more xs true none = ap (list_any p) (append-nil xs) ∙ none
     one_more xs false none = behind_none p xs 0 entry none fails
 
--- the side segments that a master names have what they had, where one more entry names none
+-- the side segments that a master names have what they had, if one more entry names none
 pub named_stays : (range : Range) (from : ℕ) (w : Written) (entry : Entry) → named_by range entry ≡ [] → from ≤ length w.entries → named_items range from (with_one_more w entry) ≡ named_items range from w
 named_stays range from w entry none placed =
     grind (arith, filter, is_in, items_of, flat_map, side_entries, named, unmarked_from_last, named_same, unmarked_from, is_marked, length)
 
--- a piece of a list stands there with more behind the list
+-- a piece of a list is the same with more behind the list
 pub piece_push : {X : Type 0} (first past : ℕ) (xs ys : List X) → past ≤ length xs → take (past - first) (drop first (xs ++ ys)) ≡ take (past - first) (drop first xs)
 piece_push first past xs ys within = grind (arith, length, take, drop, length-drop, drop-append-le, take-append-le, cases_lt)
 
@@ -51,7 +51,7 @@ serving_unmerged role serves merged = false≢true merged
 abbrev pub AreShared : List Entry → List Held → List Held → Type 0
 AreShared truth table items = (item : Held) → Contains items item → Contains (items_of truth) item × IsFound table item
 
--- a master that rebuilds a row, by what is needed, where this counts of its own entries, which are these, and this is its handover
+-- a master that rebuilds a row, by what is needed, what counts of its own entries, what it has written, and its handover
 abbrev pub IsRebuilderWith : (v : View) (row : Row) (lineage : List Member) (to : ℕ) (Needed : ℕ → EntryEnd → Type 0) → List Entry → Written → Handover → Type 0
 IsRebuilderWith v row lineage to Needed own written handover =
     IsRebuilder row lineage to (truths v row) own Needed (λ q. known_of (v.logs q) READ_BACKUP) (λ q. stored_of v.stored q READ_BACKUP)
@@ -77,7 +77,7 @@ module _ (v : View) (sound : LogsOf v) (new : Entry) (row : Row) (lineage : List
   marked : All (λ mark. mark.past ≤ length (v.written to).entries) (v.written to).marks
   marked = (sound.each to).marked
 
-  -- the piece of a rebuild stands where it did, and still nothing of its range stands behind it
+  -- the piece of a rebuild is where it was, and still nothing of its range is behind it
   piece_stays : (merged : Merged) (entry : ℕ) → touches handover.range new ≡ false → IsPieceOf row.tablet from handover merged w entry → IsPieceOf row.tablet from handover merged more entry
   piece_stays merged entry outside piece = grind (arith, length, marked, suc, piece_push, behind_none, touches)
 

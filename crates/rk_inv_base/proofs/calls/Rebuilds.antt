@@ -12,12 +12,12 @@ IsRebuilderBy Needed logs written stored row lineage master truth handover compl
     IsRebuilder row lineage master truth (member_material written row.range (member_at master (own_place handover.role))) Needed
     (λ q. known_of (logs q) READ_BACKUP) (λ q. stored_of stored q READ_BACKUP) (written master) handover completions gather ends table
 
--- where what is needed is what masters have written says
+-- and what is needed is given by what masters have written
 abbrev pub IsRebuilderIn : (ℕ → Log) → (ℕ → Written) → (ℕ → Segments) → Row → List Member → ℕ → List Entry → Handover → Completions → Gather → List Ended → List Held → Type 0
 IsRebuilderIn logs written stored row lineage master truth handover completions gather ends table =
     IsRebuilderBy (NeededOf row written lineage) logs written stored row lineage master truth handover completions gather ends table
 
--- a mark fits a tablet of the same term that has merged as much, where its piece still stands last
+-- a mark fits a tablet of the same term that has merged as much, if its piece still comes last
 pub mark_same : (row : Row) (master : ℕ) (old new : Handover) (live : Bool) (was is : Written) (mark : Mark) → new.term ≡ old.term → has_merged new.role ≡ has_merged old.role → StandsLast row.range is mark → MarkFits row master old live was mark → MarkFits row master new live is mark
 mark_same row master old new live was is mark term merged behind fit = grind (arith, lineage_of, has_merged)
 

@@ -15,7 +15,7 @@ use Rattle.rk_table.specs.Items.{is_at}
 
 -- ---- lists
 
--- what passes a test stands in what is kept by it, and nothing else does
+-- what passes a test is in what the test keeps, and nothing else is
 pub filter_stands : {X : Type 0} (p : X → Bool) (xs : List X) (x : X) → Contains xs x → p x ≡ true → Contains (filter p xs) x
 filter_stands p [] x stands passes = absurd (none_stands x stands)
 filter_stands p (y ∷ xs) x stands passes =
@@ -36,7 +36,7 @@ filter_from p xs x stands = All-contains (Contains xs) (filter p xs) x (All-filt
 
 -- ---- records with one more item
 
--- each is the item, or stood there
+-- each is the item, or was there
 pub put_cases : (item : Held) (items : List Held) (x : Held) → Contains (with_item item items) x → (item ≡ x) ⊎ Contains items x
 put_cases item items x stands =
     let front : List Held = filter (λ other. is_before other item) items in
@@ -56,7 +56,7 @@ newer_cases item items x = go (is_newer item (found item.table item.key items))
     go true stands = put_cases item items x stands
     go false stands = inr stands
 
--- an item of another key stands where the item was put
+-- an item of another key is still there once the item was put
 pub other_put : (item : Held) (items : List Held) (x : Held) → Contains items x → is_at item.table item.key x ≡ false → Contains (with_item item items) x
 other_put item items x stands other = go (item_cmp x item) refl
   where
@@ -78,7 +78,7 @@ other_stays item items x stands other = go (is_newer item (found item.table item
     go true = other_put item items x stands other
     go false = stands
 
--- the item that stands of a key is found
+-- the item that is there of a key is found
 pub stands_is_found : (items : List Held) (table : ℕ) (key : List ℕ) (x : Held) → IsInScanOrder items → Contains items x → is_at table key x ≡ true → found table key items ≡ Some x
 unfolding IsStrictlySortedBy
 stands_is_found [] table key x order stands here = absurd (none_stands x stands)
@@ -96,7 +96,7 @@ stands_is_found (y ∷ items) table key x order stands here =
     cond-false (is_at table key y) (Some y) (found table key items) apart ∙ stands_is_found items table key x order.1 behind here)
     (stands_cases y items x stands)
 
--- the item stands once it was put
+-- the item is there once it was put
 pub put_stands : (item : Held) (items : List Held) → Contains (with_item item items) item
 put_stands item items =
     Contains-append_right (filter (λ y. is_before y item) items) (item ∷ filter (λ y. is_before item y) items) item
@@ -130,7 +130,7 @@ found_still item items x order is =
     record { there = is.there; stands = other_stays item items is.there is.stands other; same_key = is.same_key; as_new = is.as_new })
     (cases_Bool (is_at item.table item.key is.there))
 
--- a range has an item where it has another one of its key
+-- a range has an item if it has another one of its key, and only then
 pub in_by_key : (range : Range) (item x : Held) → is_at item.table item.key x ≡ true → is_in range x ≡ is_in range item
 in_by_key range item x here = grind (arith, is_of_parts, has, hash_of)
 

@@ -5,7 +5,7 @@ use Rattle.rk_inv_base.proofs.Words.{inl, inr, ◌⊎◌, slice_get, slice_set, 
 use Rattle.rk_inv_base.proofs.Words.{IsLegal, Map, map_after, map_with, Allowed, IsRisingAbove, is_mutation, outcome_of, as_accepted}
 use Rattle.rk_inv_base.proofs.Words.{has_record, IsReached, IsRecordOf}
 
--- a record is another one but for whether it is accepted, and is accepted where that is
+-- a record is another one but for whether it is accepted, and is accepted if that is
 pub record IsSameRecord (old new : Placed) : Type 0 where
   pub call : new.call ≡ old.call
   pub outcome : new.outcome ≡ old.outcome
@@ -40,7 +40,7 @@ accepted_same [] place placed stands = absurd (cc stands)
 accepted_same (first ∷ journal) zero placed stands = grind (arith, records_themselves)
 accepted_same (first ∷ journal) (suc place) placed stands = (record_itself first, accepted_same journal place placed stands)
 
--- each of them is the accepted one, or stood there
+-- each of them is the accepted one, or was there
 pub accepted_cases : (journal : List Placed) (place : ℕ) (placed : Placed) (i : ℕ) (found : Placed) → slice_get (slice_set journal place (as_accepted placed)) i ≡ Some found → ((i ≡ place) × (as_accepted placed ≡ found)) ⊎ (slice_get journal i ≡ Some found)
 accepted_cases (first ∷ journal) zero placed zero found stands = inl (refl, cc stands)
 accepted_cases (first ∷ journal) (suc place) placed (suc i) found stands =
@@ -100,7 +100,7 @@ record_before (o ∷ olds) (n ∷ news) zero new same stands = grind (arith, sam
 record_before (o ∷ olds) (n ∷ news) (suc i) new same stands = record_before olds news i new same.1 stands
 record_before _ _ i new same stands = absurd same
 
--- and one that was there is the same as the record there now
+-- and a record that was there is the same as the record there now
 pub record_after : (olds news : List Placed) (i : ℕ) (old : Placed) → AreSameRecords olds news → slice_get olds i ≡ Some old → (new : Placed) × (slice_get news i ≡ Some new) × IsSameRecord old new
 record_after [] [] i old same stands = absurd (cc stands)
 record_after (o ∷ olds) (n ∷ news) zero old same stands = grind (arith, same.0)

@@ -18,7 +18,7 @@ AreBelow others item = All (λ other. other.version < item.version) others
 pub closing_push : (place : Option ℕ) (closing : Entry) (range : Range) (from : ℕ) (list : List Entry) (entry : Entry) → is_joined_in range entry ≡ false → HasClosing place closing range from list → HasClosing place closing range from (list ++ entry ∷ [])
 closing_push place closing range from list entry other has = grind (arith, joined_same, slice_get_front)
 
--- what the source told stands before the closing entry, also with more at the end
+-- what the source handed over is before the closing entry, also with more at the end
 pub told_push : (place : Option ℕ) (from : ℕ) (list behind : List Entry) (entry : Entry) → Contains (drop from (before_closing place list)) entry → Contains (drop from (before_closing place (list ++ behind))) entry
 told_push None from list behind entry told = still_contains _ _ entry (drop_extends from list behind) told
 told_push (Some place) from list behind entry told =

@@ -37,7 +37,7 @@ pub stored_elsewhere : (segment : ℕ) → (segment ≡ 1 → ⊥) → stored_by
 stored_elsewhere segment apart =
     ap (λ (b : Bool). stored_bytes (cond b (Some small_bytes) None)) (ne_eqb segment 1 apart)
 
--- nothing stands before the first segment
+-- nothing is before the first segment
 pub known_before : (later : ℕ) → later ≡ 1 → IsKnownBefore small_log small_known later
 known_before later is segment before same =
     let none : segment ≡ 1 → ⊥ = λ e. absurd (omega (arith, e, is, before)) in
@@ -106,7 +106,7 @@ piece_one = record {
   in_order = λ some. known_before 1 refl;
 }
 
--- each log has its copies, and the Append and the Stored tell of them
+-- each log has its copies, and the Append and the Stored fit them
 pub small_logs : Logs (log_in small_world) (written_in small_world) (backup_at small_world) small_wire
 small_logs = record {
   each = λ q. each_master (λ n m. IsLog m.log (written_by m []) (stored_of (backup_at small_world) n)) log_one

@@ -68,7 +68,7 @@ one_stands x = (0, omega arith, refl)
 pub only_one : {X : Type 0} (x y : X) → Contains (x ∷ []) y → y ≡ x
 only_one x y there = All-contains (λ z. z ≡ x) (x ∷ []) y (all_one (λ z. z ≡ x) x refl) there
 
--- what stands in it stands at its first place
+-- what is in it is at its first place
 pub first_place : {X : Type 0} (x y : X) (place : ℕ) → slice_get (x ∷ []) place ≡ Some y → place ≡ 0
 first_place x y zero e = refl
 first_place x y (suc place) e = absurd (cc)

@@ -21,7 +21,7 @@ use Rattle.rk_inv_base.proofs.example.SmallWorld.{small_end, small_placed, small
 use Rattle.rk_inv_base.proofs.example.SmallWorldLooks.{only_one, each_master, each_message, each_tablet, all_one, not_owner, post_elsewhere}
 use Rattle.rk_inv_base.proofs.example.SmallWorldLooks.{one_stands, each_client, each_request, first_place}
 
--- ---- its log and its journal tell of one put
+-- ---- its log and its journal record one put
 
 -- the truth of the row is the put alone
 pub truth_is : small_truths small_row ≡ small_entry ∷ []
@@ -46,7 +46,7 @@ small_plain a b first second table key version = only_one small_item a first ∙
 pub small_legal : IsLegal empty_map small_journal
 small_legal = (omega arith, tt)
 
--- the truth of the row tells the journal
+-- the truth of the row gives what the journal leaves
 pub truth_one : IsTruth no_base small_range (small_truths small_row) small_journal
 truth_one = rw truth_is (record { plain = small_plain; live = small_live })
 
@@ -72,7 +72,7 @@ next_one = subst (λ (truth : List Entry). floor_of (truth ++ []) ≤ 2) (sym tr
 
 -- ---- its row, what its one master has of it, and the part Cover
 
--- a master that the row names is the one that is there
+-- a master that the row names is the master that is there
 pub named_is_there : (q : ℕ) → names small_row.phase q ≡ true → IsMaster 1 q
 named_is_there q named =
     let is : 1 ≡ q = eqb-true 1 q named in
@@ -101,7 +101,7 @@ handover_nowhere r = record {
   exact = λ same term. absurd (omega (arith, term));
 }
 
--- a message that tells no tenure says nothing of terms
+-- a message that carries no tenure says nothing of terms
 pub no_tenure : (body : Body) → tenure_in body ≡ None → SentFits small_row body
 no_tenure body none = record {
   within = subst (λ o. IfSome o (λ tenure. IsWithinTerm small_row tenure.tablet tenure.term)) (sym none) tt;
@@ -155,7 +155,7 @@ reached_one =
       reaches = record { client = refl; reached = inr (refl, refl) };
     })
 
--- and so does what the truth tells of its key
+-- and so does what the truth records of its key
 pub told_one : TellAll small_range small_journal (small_entry ∷ [])
 told_one =
     all_one
@@ -175,7 +175,7 @@ known_one = inl (record {
   fits = record { mutation = refl; client = refl; seq = refl; outcome = refl };
 })
 
--- nothing stands behind the truth
+-- nothing is behind the truth
 pub rest_one : IsRest no_base small_range (small_truths small_row) (small_rests small_row) small_journal (asked_by small_ledger)
 rest_one =
     subst (λ (truth : List Entry). IsRest no_base small_range truth [] small_journal (asked_by small_ledger)) (sym truth_is)
@@ -219,7 +219,7 @@ order_one item = (tt, tt)
 
 -- ---- its reply and its request, and the part Asked
 
--- the reply tells the record
+-- the reply names the record
 pub reply_one : IsRecordAt small_journal 1 small_answer (outcomes.Written 1)
 reply_one = record {
   placed = small_placed;

@@ -14,11 +14,11 @@ pub small_size : bytes_of_logs small_world ≡ 40
 unfolding spelled_all spelled front_bytes body_length head_bytes held_bytes mark_of number_bytes key_bytes value_bytes
 small_size = refl
 
--- the request tells what its client had seen
+-- the request carries what its client had seen
 pub told_one : AreAtMost 4 (numbers_told small_request.body)
 told_one = all_one (λ number. number ≤ 4) 0 (omega arith)
 
--- no number is above the greatest that has stood, and all are far below the bounds
+-- no number is above the greatest so far, and all are far below the bounds
 pub small_has_room : HasRoom small_world
 small_has_room = record {
   standing = All-from_recursion (λ number. number ≤ 4) (standing small_world) (omega arith, (omega arith, (omega arith, (omega arith, (omega arith, tt)))));

@@ -19,7 +19,7 @@ use Rattle.rk_inv_base.proofs.example.SmallWorld.{small_master, small_placed, sm
 use Rattle.rk_inv_base.proofs.example.SmallWorld.{small_row, small_tablet, small_told, small_view, small_world}
 use Rattle.rk_inv_base.proofs.views.Empty.{in_order_none}
 
--- what holds of the master, where it answers calls, or will; another one does not
+-- what holds of the master holds of each master that answers calls, or will: no other one does
 pub speaking : (P : Master → Type 0) → P small_master → (q : ℕ) → SpeaksFor small_view small_row q → P (master_at small_world q)
 speaking P here q =
     each_master (λ n m. speaks (post_of small_row.phase n) (tablet_at m 1).handover 1 ≡ true → P m) (λ says. here)

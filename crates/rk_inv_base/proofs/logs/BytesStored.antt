@@ -13,7 +13,7 @@ pub use Rattle.rk_inv_base.proofs.logs.Copies.{first_part_length}
 
 -- ---- bytes behind others
 
--- where two have bytes together, one of them has
+-- if two have bytes together, one of them has
 pub appended_some : {Fact : Type 0} (front bytes : List ℕ) → (front ≢ [] → Fact) → (bytes ≢ [] → Fact) → front ++ bytes ≢ [] → Fact
 appended_some front [] old new some = old (λ none. some (append-nil front ∙ none))
 appended_some front (byte ∷ bytes) old new some = new (λ none. absurd (cc))
@@ -56,7 +56,7 @@ module _ (v : View) (master backup segment : ℕ) (bytes : List ℕ) (sound : So
         omega (arith, old.told s, longer);
   }
 
-  -- a Stored tells no more than is stored
+  -- a Stored reports no more than is stored
   log_says : (from to : Node) (body : Body) → LogSays v.logs v.stored from to body → LogSays v.logs now.stored from to body
   log_says (nodes.Backup b) (nodes.Master q) (bodies.Stored told) says = grind (arith, first_part_length, stored_of, more, told.segment)
   log_says _ _ _ says = says
@@ -76,7 +76,7 @@ module _ (w : World) (master backup segment : ℕ) (bytes : List ℕ) where
   abbrev taken : Segments → Segments
   taken segments = with_more segments master segment bytes
 
-  -- a backup that tells what it stores takes them
+  -- a backup that is in the world takes them
   view_taken : (kept : Segments) → get w.backups backup ≡ Some kept → view (with_stored_by w backup taken (Some kept)) ≡ stored_more (view w) master backup segment bytes
   view_taken kept found i = record (view w) {
     stored = λ q.
@@ -88,7 +88,7 @@ module _ (w : World) (master backup segment : ℕ) (bytes : List ℕ) where
         i;
   }
 
-  -- one that does not stores nothing that is seen
+  -- a backup that is not in it stores nothing that is seen
   pub sound_taken : IsSound w → MayStore (view w) master backup segment bytes → (found : Option Segments) → get w.backups backup ≡ found → IsSound (with_stored_by w backup taken found)
   sound_taken sound may None found = sound
   sound_taken sound may (Some kept) found =

@@ -35,14 +35,14 @@ members_by P (gathered ∷ members) all =
 pub each_member : (lineage : List Member) → All (λ member. is_member lineage member.master ≡ true) lineage
 each_member lineage k d within = grind (arith, slice_index_or, list_any_at, eq-eqb)
 
--- no fewer first entries are stored where more is stored of each segment
+-- no fewer first entries are stored if more is stored of each segment
 pub count_more : (log : Log) (stored stored' : ℕ → List ℕ) → ((segment : ℕ) → IsFirstPart (stored segment) (stored' segment)) → stored_count log stored ≤ stored_count log stored'
 count_more log stored stored' more = grind (arith, prefix_len_weaker, nat_le, length, ends, leb-true, first_part_length, le-leb)
 
 -- ---- the law
 
--- logs may be others of the same entries, and backups may store other bytes, where the part of logs holds of them, backup 1 stores no less
--- of any log, and what a dead master knew of it stays
+-- logs may be others of the same entries, and backups may store other bytes, if the part of logs holds of them, backup 1 stores no less of
+-- any log, and what a dead master knew of it stays
 pub record MayCopy (v : View) (logs : ℕ → Log) (stored : ℕ → Segments) : Type 0 where
   pub fit : LogsOf (record v { logs = logs; stored = stored })
   pub backups : (q : ℕ) → length (logs q).known ≡ length (v.logs q).known
@@ -54,7 +54,7 @@ module _ (v : View) (logs : ℕ → Log) (stored : ℕ → Segments) (sound : So
   abbrev now : View
   now = record v { logs = logs; stored = stored }
 
-  -- what backup 1 stores of a member tells no less
+  -- what backup 1 stores of a member records no less
   stored_more : (range : Range) (member : Member) → Extends (member_stored v.logs v.written v.stored range member) (member_stored logs v.written stored range member)
   stored_more range member =
       let q : ℕ = member.master in

@@ -26,9 +26,9 @@ pub record IsAtEnd (lineage : List Member) (master : ℕ) : Type 0 where
   pub is_last : last_of lineage ≡ Some last
   pub here : last.master ≡ master
 
--- a living master that serves the tablet of a row, as the last member of its lineage, may append an entry for it, where its log has room,
--- and the entry names only what is stored, lies in rows, touches no range that the row does not meet, and counts for no other row. With it
--- what is staged of the row goes on as it should, and so do a target of the row, what the target names, and the calls that wait
+-- a living master that serves the tablet of a row, as the last member of its lineage, may append an entry for it, if its log has room, and
+-- the entry names only what is stored, lies in rows, touches no range that the row does not meet, and counts for no other row. With it what
+-- is staged of the row goes on as it should, and so do a target of the row, what the target names, and the calls that wait
 pub record MayAddEntry (v : View) (row : Row) (master : ℕ) (entry : Entry) (calls : ℕ → NumberMap Call) (new : Handover) : Type 0 where
   pub lives : v.live master ≡ true
   pub has_row : Contains v.rows row
@@ -64,7 +64,7 @@ module _ (v : View) (row : Row) (master : ℕ) (entry : Entry) (calls : ℕ → 
   first_apart : (first last : Member) (more : List Member) → lineage_of row.phase ≡ first ∷ last ∷ more → first.master ≡ master → ⊥
   first_apart first last more is at = grind (arith, first_not_last, formed_apart, was, last_of)
 
-  -- and where the master is to rebuild the row, it has not begun
+  -- and if the master is to rebuild the row, it has not begun
   idles : (lineage : List Member) → row.phase ≡ Rebuilding lineage master → (v.handovers master row.tablet).term ≡ row.term → ⊥
   idles lineage is term = grind (arith, not_begun, bond_of, post_of, was)
 

@@ -19,7 +19,7 @@ still_contains old new entry grown has = rw grown.parts (Contains-append_left ol
 pub extends_behind : (front old new : List Entry) → Extends old new → Extends (front ++ old) (front ++ new)
 extends_behind front old new grown = grind (arith, append_assoc)
 
--- so are the first of them, where no fewer are taken
+-- so are the first of them, if no fewer are taken
 pub take_extends : (few many : ℕ) (list behind : List Entry) → few ≤ many → Extends (take few list) (take many (list ++ behind))
 take_extends zero many list behind more = record { more = take many (list ++ behind); parts = refl }
 take_extends (suc few) zero list behind more = absurd (omega arith)
@@ -53,7 +53,7 @@ counting_extends range marks place old new grown =
 pub stored_push : (log : Log) (entry : Entry) (stored : ℕ → List ℕ) → stored_count log stored ≤ stored_count (with_entry log entry) stored
 stored_push log entry stored = grind (arith, nat_le, ends_push, prefix_len_push_le, ends, end_of, with_bytes, cut, spelled)
 
--- what tells no more than some tells no more than these with others
+-- what records no more than some entries records no more than these with others
 pub tells_extended : (list old new : List Entry) → Extends old new → TellNoMore list old → TellNoMore list new
 tells_extended list old new grown tells =
     subst (TellNoMore list) (sym grown.parts) (record {

@@ -44,11 +44,11 @@ scan_in range list all =
 
 -- ---- what is left of records
 
--- what is left stood there
+-- what is left was there
 pub stood : (range : Range) (items : List Held) (item : Held) → Contains (without range items) item → Contains items item
 stood range items item left = filter_from (λ held. not (is_in range held)) items item left
 
--- so where none passed a test, none does now
+-- so if none passed a test, none does now
 pub neither : (a b : Bool) → (a || b) ≡ false → b ≡ false
 neither true b none = absurd (cc)
 neither false b none = none
@@ -59,7 +59,7 @@ none_left test keep items none =
     (all_by (λ item. test item ≡ false) (filter keep items)
     (λ item stands. none_pass test items none item (filter_from keep items item stands)))
 
--- whether an item is in a range is told by its key
+-- whether an item is in a range depends on its key
 pub in_by_key : (range : Range) (item other : Held) → is_of item.table item.key other ≡ true → is_in range other ≡ is_in range item
 in_by_key range item other same = Rattle.rk_inv_base.proofs.calls.Records.in_by_key range item other same
 
@@ -124,7 +124,7 @@ rebuilder_same v row lineage to old new same was =
     assumption
 
 module _ (gone range : Range) (apart : meets gone range ≡ false) (records : List Held) where
-  -- an item of the other range stands still
+  -- an item of the other range is still there
   pub stays : (item : Held) → is_in range item ≡ true → Contains records item → Contains (without gone records) item
   stays item inside stands = grind (arith, filter_stands, is_in, key_outside)
 

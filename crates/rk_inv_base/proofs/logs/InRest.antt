@@ -5,7 +5,7 @@ use Rattle.rk_inv_base.proofs.Words.{Row, last_of, is_marked, unmarked, unmarked
 use Rattle.rk_inv_base.proofs.Words.{rest_of, Mark, Waits}
 use Rattle.rk_inv_base.proofs.logs.Shares.{counts_call}
 
--- what stands at a place stands behind each place before it
+-- what is at a place is behind each place before it
 pub behind_at : {X : Type 0} (xs : List X) (from place : ℕ) (x : X) → from ≤ place → slice_get xs place ≡ Some x → (k : ℕ) × (slice_get (drop from xs) k ≡ Some x) × (from + k ≡ place)
 behind_at [] from place x behind at = absurd (cc at)
 behind_at (y ∷ xs) zero place x behind at = (place, at, omega arith)

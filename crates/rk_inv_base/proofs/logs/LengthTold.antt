@@ -19,15 +19,15 @@ pub use Rattle.rk_inv_base.proofs.logs.Copies.{each_member, members_by}
 -- ---- what a log knows of its backups
 
 module _ (log : Log) (backup segment size : ℕ) (numbered : IsBackup log backup) where
-  -- the log that was told the length
+  -- the log with the length that was reported
   abbrev new : Log
   new = with_told log backup segment size
 
-  -- what the teller is known to hold
+  -- what the backup that reported is known to hold
   abbrev now_known : Known
   now_known = told (known_of log backup) segment size
 
-  -- a statement of what a backup is known to hold is one of the teller or one of another
+  -- a statement of what a backup is known to hold is one of the backup that reported, or one of another
   by_teller : (P : Known → Type 0) (b : ℕ) → (b - 1 ≡ backup - 1 → P (told (known_of log b) segment size)) → P (known_of log b) → P (known_of new b)
   by_teller P b here apart = grind (arith, get_or, set, nothing, get_or-set_same, told, get_or-set_other, cases_eq)
 
@@ -41,7 +41,7 @@ module _ (log : Log) (backup segment size : ℕ) (numbered : IsBackup log backup
   before_still : (b later : ℕ) → IsKnownBefore log (known_of log b) later → IsKnownBefore new (known_of new b) later
   before_still b later before earlier less sort = omega (arith, before earlier less sort, known_rises b earlier)
 
-  -- what is told is stored
+  -- what is reported is stored
   told_within : (known : Known) (stored : ℕ → List ℕ) (s : ℕ) → size ≤ length (stored segment) → known_length known s ≤ length (stored s) → known_length (told known segment size) s ≤ length (stored s)
   told_within known stored s is_stored old = grind (arith, length, told_length, told_other, cases_eq)
 
@@ -77,13 +77,13 @@ module _ (log : Log) (backup segment size : ℕ) (numbered : IsBackup log backup
   piece_told : (b : ℕ) (append : Append) → IsFromLog log (known_of log b) append → IsFromLog new (known_of new b) append
   piece_told b append piece = grind (arith, before_still)
 
--- ---- a master is told a length
+-- ---- a length is reported to a master
 
 module _ (v : View) (master backup segment size : ℕ) (sound : SoundView v) (may : MayTell v master backup segment size) where
   abbrev now : View
   now = length_told v master backup segment size
 
-  -- a statement of a log holds of the one that was told, and of the others
+  -- a statement of a log holds of the log with the reported length, and of the others
   by_log : (P : Log → Type 0) (q : ℕ) → (q ≡ master → P (with_told (v.logs q) backup segment size)) → P (v.logs q) → P (now.logs q)
   by_log P q here apart = put_by v.logs master (λ log. with_told log backup segment size) P q here (λ other. apart)
 
@@ -110,7 +110,7 @@ module _ (v : View) (master backup segment size : ℕ) (sound : SoundView v) (ma
     sent = λ n m there. log_says m.from m.to m.body (sound.logs.sent n m there);
   }
 
-  -- a dead master was not told
+  -- nothing was reported to a dead master
   known_dead : (q : ℕ) → v.live q ≡ false → known_of (v.logs q) READ_BACKUP ≡ known_of (now.logs q) READ_BACKUP
   known_dead q dead = grind (arith, known_of, put_other, with_told, false≢true)
 
@@ -125,7 +125,7 @@ module _ (v : View) (master backup segment size : ℕ) (sound : SoundView v) (ma
     known = known_dead;
   })
 
--- what a told length makes of a view: the log alone is seen, whatever tablet is named
+-- what a reported length makes of a view: the log alone is seen, whatever tablet is named
 pub told_is : (w : World) (master backup segment size : ℕ) → view (length_told_in w master backup segment size) ≡ length_told (view w) master backup segment size
 told_is w master backup segment size =
     view_master w master (with_known (master_at w master) backup segment size) 0 (tablet_in w master 0) refl refl (λ r apart. refl)

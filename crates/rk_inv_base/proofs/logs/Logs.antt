@@ -14,7 +14,7 @@ use Rattle.rk_inv_base.proofs.logs.Segments.{Grows, grows_entry}
 abbrev pub AreStored : Log → Entry → Type 0
 AreStored log entry = All (λ segment. is_side_stored log segment ≡ true) (segments_in entry)
 
--- as it is where the entry names none
+-- as it is if the entry names none
 pub none_stored : (log : Log) (entry : Entry) → segments_in entry ≡ [] → AreStored log entry
 none_stored log entry none =
     subst (All (λ segment. is_side_stored log segment ≡ true)) (sym none) (All-nil (λ segment. is_side_stored log segment ≡ true))
@@ -22,12 +22,12 @@ none_stored log entry none =
 pub first_part_more : (a b c : List ℕ) → IsFirstPart a b → IsFirstPart b c → IsFirstPart a c
 first_part_more a b c first next = grind (arith, append_assoc)
 
--- bytes behind others are none where all are
+-- bytes behind others are none if all are
 pub none_behind : (before bytes behind : List ℕ) → before ++ (bytes ++ behind) ≡ [] → bytes ≡ []
 none_behind [] [] behind none = refl
 none_behind _ _ behind none = absurd (cc)
 
--- what is known of the segments before one that has bytes is known then
+-- what is known of the segments before a segment with bytes is known then
 pub known_before_grown : (old new : Log) (known : Known) (later : ℕ) → Grows old new → bytes_of old later ≢ [] → IsKnownBefore old known later → IsKnownBefore new known later
 known_before_grown old new known later grows filled before segment less sort =
     omega (arith, before segment less sort, ap length (grows.full segment later less sort filled))

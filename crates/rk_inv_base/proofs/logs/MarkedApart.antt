@@ -11,21 +11,21 @@ use Rattle.rk_inv_base.proofs.rows.Apart.{apart_either}
 
 -- ---- places
 
--- what stands behind a place stands at its own
+-- what is behind a place is at a place of its own
 pub place_of : {X : Type 0} (xs : List X) (from k place : ℕ) (x : X) → from + k ≡ place → slice_get (drop from xs) k ≡ Some x → slice_get xs place ≡ Some x
 place_of xs zero k place x is at = grind arith
 place_of [] (suc from) k place x is at = absurd (cc at)
 place_of (y ∷ xs) (suc from) k zero x is at = absurd (omega (arith, is))
 place_of (y ∷ xs) (suc from) k (suc place) x is at = place_of xs from k place x (omega (arith, is)) at
 
--- what stands at one of the first places is of the first part
+-- what is at one of the first places is of the first part
 pub taken : {X : Type 0} (xs : List X) (n k : ℕ) (x : X) → k < n → slice_get xs k ≡ Some x → Contains (take n xs) x
 taken [] n k x less at = absurd (cc at)
 taken (y ∷ xs) zero k x less at = absurd (omega (arith, less))
 taken (y ∷ xs) (suc n) zero x less at = let same : y ≡ x = cc at in (0, omega arith, same)
 taken (y ∷ xs) (suc n) (suc k) x less at = behind_first y (take n xs) x (taken xs n k x (omega (arith, less)) at)
 
--- what stands within a piece is of it
+-- what is at a place within a piece is of it
 pub in_piece : {X : Type 0} (xs : List X) (first past place : ℕ) (x : X) → first ≤ place → place < past → slice_get xs place ≡ Some x → Contains (take (past - first) (drop first xs)) x
 in_piece xs first past place x behind before at =
     let found = behind_at xs first place x behind at in
@@ -34,7 +34,7 @@ in_piece xs first past place x behind before at =
 
 -- ---- ranges
 
--- a range that does not meet one that is not empty does not have all of it
+-- a range that does not meet a range that is not empty does not have all of it
 pub not_all : (a b : Range) → meets a b ≡ false → b.first ≤ b.last → has_all a b ≡ false
 not_all a b apart some = grind (arith, nat_tests)
 
@@ -42,7 +42,7 @@ not_all a b apart some = grind (arith, nat_tests)
 pub entry_apart : (a b : Range) → meets a b ≡ false → meets b a ≡ false → b.first ≤ b.last → (entry : Entry) → IsOfRange a entry → counts b entry ≡ false
 entry_apart a b apart back some entry of = grind (arith, key_outside, not_all)
 
--- where no marked entry counts, nothing does of what is marked
+-- if no marked entry counts, nothing does of what is marked
 pub none_counted : (range : Range) (marks : List Mark) (list : List Entry) (place : ℕ) → ((k : ℕ) (entry : Entry) → slice_get list k ≡ Some entry → is_marked marks (place + k) ≡ true → counts range entry ≡ false) → counting range (marked_entries marks place list) ≡ []
 none_counted range marks [] place none = refl
 none_counted range marks (entry ∷ list) place none =
@@ -109,7 +109,7 @@ module _ (v : View) (row : Row) (sound : SoundView v) (has_row : Contains v.rows
       marked_apart member.master (member.from + k) entry
       (place_of (v.written member.master).entries member.from k (member.from + k) entry refl at) marked)
 
-  -- and what a member has in marked pieces tells nothing new
+  -- and what a member has in marked pieces records nothing new
   tells_none : (member : Member) (others : List Entry) → TellNoMore (member_marked v.written row.range member) others
   tells_none member others = grind (arith, marks_none, told, floor_rises)
 

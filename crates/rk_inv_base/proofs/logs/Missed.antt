@@ -32,7 +32,7 @@ from_missed range marks place list all = unmarked_missed range marks place (drop
 pub none_touches : (range : Range) (list : List Entry) → All (Misses range) list → list_any (touches range) list ≡ false
 none_touches range list all = list_any_none (touches range) list all
 
--- nor counts, where the range is not empty
+-- nor counts, if the range is not empty
 pub not_all : (s f l t g m : ℕ) → g ≤ m → (eqb s t && leb f m && leb g l) ≡ false → (eqb s t && leb f g && leb m l) ≡ false
 not_all s f l t g m some apart = grind (arith, nat_tests)
 

@@ -61,7 +61,7 @@ module _ (v : View) (master : ℕ) (entry : Entry) (sound : LogsOf v) where
   pub longer : (q : ℕ) → length (v.written q).entries ≤ length (written q).entries
   longer q = grind (arith, of_written, length-append)
 
-  -- what is applied stands in the log, and so do the marked pieces
+  -- what is applied is in the log, and so are the marked pieces
   pub within : (q : ℕ) → (v.written q).applied ≤ length (v.written q).entries
   within q = applied_within (v.logs q) (v.written q) _ (sound.each q)
 
@@ -74,7 +74,7 @@ module _ (v : View) (master : ℕ) (entry : Entry) (sound : LogsOf v) where
   pub truth_same : (range : Range) (member : Member) → member_truth written range member ≡ member_truth v.written range member
   truth_same range member = grind (arith, of_written, log_material, applied_entries, member_truth, take-append-le, within)
 
-  -- so does what a member has written, unless it is the one that appends, and of the range
+  -- so does what a member has written, unless the member appends, and the entry is of the range
   pub material_same : (range : Range) (member : Member) → (member.master ≡ master → IsBeside range entry) → member_material written range member ≡ member_material v.written range member
   material_same range member beside =
       of_written
@@ -102,7 +102,7 @@ module _ (v : View) (master : ℕ) (entry : Entry) (sound : LogsOf v) where
   pub rest_at : (x : Row) → counts x.range entry ≡ false → rest_of written x ≡ rests v x
   rest_at x beside = lineage_same x.range (lineage_of x.phase) beside
 
-  -- the rest of a row whose lineage ends with the master has the entry at its end, where it counts
+  -- the rest of a row whose lineage ends with the master has the entry at its end, if it counts
   pub lineage_grown : (range : Range) (members : List Member) (last : Member) → All (IsPlaced v.written) members → last_of members ≡ Some last → last.master ≡ master → counts range entry ≡ true → lineage_rest written range members ≡ lineage_rest v.written range members ++ entry ∷ []
   lineage_grown range [] last placed is here has = absurd (cc is)
   lineage_grown range (member ∷ []) last placed is here has =
@@ -120,7 +120,7 @@ module _ (v : View) (master : ℕ) (entry : Entry) (sound : LogsOf v) where
   lineage_grown range (member ∷ next ∷ more) last placed is here has =
       lineage_grown range (next ∷ more) last (All-tail (IsPlaced v.written) member (next ∷ more) placed) is here has
 
-  -- ---- what a dead member marked, where the one that appends lives
+  -- ---- what a dead member marked, if the master that appends lives
 
   module _ (lives : v.live master ≡ true) where
     pub dead_apart : (q : ℕ) → v.live q ≡ false → q ≡ master → ⊥
@@ -160,7 +160,7 @@ module _ (v : View) (master : ℕ) (entry : Entry) (sound : LogsOf v) where
         (λ apart. absurd (apart at)))
         (λ apart. of_written (Grown log) q (λ at. absurd (apart at)) (λ _. record { more = []; parts = sym (append-nil (counted log w)) }))
 
-    -- what dead members wrote for a rebuild tells no more than before
+    -- what dead members wrote for a rebuild records no more than before
     pub marked_on : (range : Range) (lineage : List Member) → FirstIsBeside master entry range lineage → MarkedFit v.logs v.written v.stored v.live range lineage → MarkedFit logs written v.stored v.live range lineage
     marked_on range [] first fit = tt
     marked_on range (only ∷ []) first fit = λ dead. rw (marked_dead range only dead, material_dead range only dead) (fit dead)

@@ -41,7 +41,7 @@ pub bytes_main : (log : Log) (number : ℕ) → 1 ≤ number → number < FIRST_
 bytes_main log number some less =
     grind (arith, found_in, cut, segment_of, side_segments, numbered_at, numbered_past, numbered_before, get_or_past, cases_lt)
 
--- a main segment has bytes where a later one has some
+-- a main segment has bytes if a later one has some
 pub bytes_before : (log : Log) (earlier later : ℕ) → 1 ≤ earlier → earlier < later → later < FIRST_SIDE_SEGMENT → 0 < length (bytes_of log later) → 0 < length (bytes_of log earlier)
 bytes_before log earlier later some before less filled = grind (arith, length, cut, bytes_main, cut_filled, bytes_of, get_or_past, cases_lt)
 

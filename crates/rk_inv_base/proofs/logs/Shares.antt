@@ -12,7 +12,7 @@ append_nil xs = append-nil xs
 pub drop_all : {X : Type 0} (count : ℕ) (xs : List X) → length xs ≤ count → drop count xs ≡ []
 drop_all count xs few = Rattle.std.proofs.lemmas.List.drop_all count xs few
 
--- one entry, or none where it bears a mark
+-- one entry, or none if it bears a mark
 abbrev pub unless_marked : Bool → Entry → List Entry
 unless_marked marked entry = cond marked [] (entry ∷ [])
 

@@ -5,7 +5,7 @@ use Rattle.rk_inv_base.proofs.Words.{list_any-append, bytes_eq-Decides, Held, Me
 use Rattle.rk_inv_base.proofs.Words.{is_receiving, GoesOn, source_items, View, or_cases, item_hash, MayResolve, resolving}
 use Rattle.rk_inv_base.proofs.calls.Records.{filter_stands}
 
--- the outstanding batch is just what is given, where the test says so
+-- the outstanding batch is just what is given, if the test says so
 pub batch_is : (outstanding given : List ℕ) → is_batch outstanding given ≡ true → outstanding ≡ given
 batch_is [] given same = absurd (cc)
 batch_is (hash ∷ more) given same = let decides = bytes_eq-Decides (hash ∷ more) given in decides.0 same
@@ -23,7 +23,7 @@ resolved_cases hashes given hash = go (is_batch hashes.outstanding given) refl
         (or_cases (contains hashes.resolved hash) (contains hashes.outstanding hash)
         (sym (list_any-append (λ (h : ℕ). eqb h hash) hashes.resolved hashes.outstanding) ∙ has))
 
--- an item stands among those that have given hashes, where its own is one of these
+-- an item is among those that have given hashes, if its own is one of these
 pub of_hashes : (items : List Held) (given : List ℕ) (item : Held) → Contains items item → contains given (item_hash item) ≡ true → Contains (flat_map (λ hash. at_hash hash items) given) item
 of_hashes items [] item stands has = absurd (cc)
 of_hashes items (hash ∷ more) item stands has =

@@ -9,7 +9,7 @@ use Rattle.rk_transfer.specs.declared.role.Role.TheVariants as roles
 use Rattle.rk_inv_base.proofs.calls.Records.{found_still, in_by_key, newer_cases, other_stays}
 use Rattle.rk_inv_base.proofs.logs.InRange.{HaveSame, none_same, table_same}
 
--- ---- lists of items, where one of them has one more
+-- ---- lists of items, one of which has one more
 
 module _ (item : Held) where
   -- the lists, with the item at the end of one

@@ -9,7 +9,7 @@ use Rattle.rk_tablet_map.specs.Phase.{member as member_at}
 use Rattle.rk_inv_base.proofs.views.Among.{from_flat, number_from, to_flat}
 use Rattle.rk_inv_base.proofs.calls.Records.{filter_from, filter_stands, scanned_from}
 
--- a master is the second of two members of a lineage; where it is to rebuild the row, it keeps a smaller term
+-- a master is the second of two members of a lineage; if it is to rebuild the row, it keeps a smaller term
 pub record IsSecond (phase : Phase) (master term own : ℕ) : Type 0 where
   pub source : Member
   pub target : Member
@@ -18,7 +18,7 @@ pub record IsSecond (phase : Phase) (master term own : ℕ) : Type 0 where
   pub apart : source.master ≡ master → ⊥
   pub behind : (lineage : List Member) → phase ≡ Rebuilding lineage master → own < term
 
--- two numbers differ where a test says so
+-- two numbers differ if a test says so
 pub differ : (a b : ℕ) → (a == b) ≡ false → a ≡ b → ⊥
 differ a b other same = false≢true (sym other ∙ eq-eqb a b same)
 
@@ -56,12 +56,12 @@ module _ (master term own applied : ℕ) where
 
 -- ---- what is among some
 
--- what is kept of a list stands there, and passes the test
+-- what is kept of a list is in it, and passes the test
 pub kept_stands : {X : Type 0} (p : X → Bool) (xs : List X) (x : X) → Contains (filter p xs) x → Contains xs x × (p x ≡ true)
 kept_stands p xs x at =
     (filter_from p xs x at, All-contains (λ y. p y ≡ true) (filter p xs) x (filter_passes p xs) at)
 
--- and what stands there and passes is kept
+-- and what is in it and passes is kept
 pub stands_kept : {X : Type 0} (p : X → Bool) (xs : List X) (x : X) → Contains xs x → p x ≡ true → Contains (filter p xs) x
 stands_kept p xs x at passes = filter_stands p xs x at passes
 

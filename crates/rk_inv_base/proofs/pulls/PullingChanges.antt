@@ -59,7 +59,7 @@ module _ (v : View) (master number : ℕ) (token : Pulling → Token) (batches :
       (λ at its. target_goes_on v token batches hashes row source target (may row source target has at its is) was)
       (λ apart. was))
 
--- where neither the token changes nor what was resolved, no more counts as arrived
+-- if neither the token changes nor what was resolved, no more counts as arrived
 pub none_arrives : (v : View) (master number : ℕ) (batches : Pulling → ℕ) (hashes : Pulling → Hashes) → ((p : Pulling) → (hashes p).resolved ≡ p.hashes.resolved) → MayGoOn v master number (gone_on (λ p. p.token) batches hashes)
 none_arrives v master number batches hashes same row source target has at its is = grind (arith, passed, source_items, contains, item_hash)
 

@@ -189,7 +189,7 @@ module _ (v : View) (row : Row) (source target : Member) (worker : ℕ) (item : 
 
 -- ---- the world
 
--- what is seen of a world where an item was replayed
+-- what is seen of a world in which an item was replayed
 pub view_item : (w : World) (master number worker : ℕ) (item : Held) → view (item_replayed_in w master number worker item) ≡ replayed (view w) master number worker item
 view_item w master number worker item =
     let m : Master = master_at w master in

@@ -45,7 +45,7 @@ NoneBehind known =
     (earlier later : ℕ) → 1 ≤ earlier → earlier < later → is_main later ≡ true → known_length known earlier ≡ 0
     → known_length known later ≡ 0
 
--- what is needed has bytes in its segment, and nothing that is needed stands behind a segment of which nothing is known
+-- what is needed has bytes in its segment, and nothing that is needed is behind a segment of which nothing is known
 pub record NeedsFew (Needed : EntryEnd → Type 0) (known : Known) : Type 0 where
   pub some : (end : EntryEnd) → Needed end → 1 ≤ end.offset
   pub behind :

@@ -12,7 +12,7 @@ use Rattle.rk_inv_base.proofs.Base.{NeedsFew, NoneBehind, members_read, read_apa
 use Rattle.rk_inv_base.proofs.Base.{AreAmong, IsStoredEnd, among_then, end_stored, given_up_among, living_among, needed_member}
 use Rattle.rk_inv_base.proofs.Base.{needed_within, tells_among, bytes_before, row_in, IsRebuiltIn}
 
--- of a copy where nothing of a main segment is known to be stored, nothing is stored of a later one
+-- if nothing of a main segment is known to be stored in a copy, it stores nothing of a later one
 pub copy_none_stored : (log : Log) (stored : ℕ → List ℕ) (known : Known) → IsCopy log stored known → (earlier later : ℕ) → 1 ≤ earlier → earlier < later → is_main later ≡ true → known_length known earlier ≡ 0 → 0 < length (stored later) → ⊥
 copy_none_stored log stored known copy earlier later some before main none filled =
     let front = copy.front later in
@@ -35,7 +35,7 @@ module _ (v : View) (row : Row) (lineage : List Member) (own : ℕ) (sound : Sou
   abbrev told_of : Member → Member → List Entry
   told_of first last = member_material v.written row.range first ++ member_stored v.logs v.written v.stored row.range last
 
-  -- these tell what the first one has of given up rebuilds
+  -- these record what the first one has of given up rebuilds
   given_up_told : (first last : Member) → MarkedFit v.logs v.written v.stored v.live row.range (first ∷ last ∷ []) → AreAmong (member_given_up v.written row first) (told_of first last)
   given_up_told first last fit = go (v.live first.master) refl
     where
@@ -76,7 +76,7 @@ module _ (v : View) (row : Row) (lineage : List Member) (own : ℕ) (sound : Sou
       named (ap (λ (phase : Phase). names phase q) is ∙ or_right (own == q) (is_member lineage q) member) in
       record { first = omega arith; last = omega (arith, sound.nodes.known q there, sound.nodes.backed) }
 
-  -- nothing that is needed stands behind a segment of which nothing is known
+  -- nothing that is needed is behind a segment of which nothing is known
   needs_few : MarkedFit v.logs v.written v.stored v.live row.range lineage → (q : ℕ) → NeedsFew (NeededOf row v.written lineage q) (known_of (v.logs q) READ_BACKUP)
   needs_few fit q = record {
     some = λ end needed. let stored = needed_stored lineage fit q end needed in stored.some;

@@ -37,7 +37,7 @@ module _ (v : View) (row : Row) (master : ℕ) (sound : SoundView v) (may : MayR
   apart : (number : ℕ) → (number ≡ row.tablet → ⊥) → is_absent (v.handovers master number).role ≡ false → meets gone (v.handovers master number).range ≡ false
   apart number other there = grind (arith, is_absent)
 
-  -- a row's range is kept by its members, and has none of what is dropped where the row is another one
+  -- a row's range is kept by its members, and has none of what is dropped if the row is another one
   outside : (x : Row) → Contains v.rows x → (q : ℕ) → q ≡ master → (x.tablet ≡ row.tablet → ⊥) → is_absent (v.handovers q x.tablet).role ≡ false → is_member (lineage_of x.phase) q ≡ true → meets gone x.range ≡ false
   outside x has q at other there member = grind (arith, row_in, meets, apart, is_absent)
 
@@ -75,14 +75,14 @@ module _ (v : View) (row : Row) (master : ℕ) (sound : SoundView v) (may : MayR
       IsTargetIn v.written x source target (v.handovers target.master x.tablet) (v.pullings target.master x.tablet) (get v.handed x.tablet)
       items
 
-  -- where the master was granted a tablet, it is another one
+  -- a tablet that the master was granted is another one
   target_apart : (x : Row) → Contains v.rows x → (source target : Member) → lineage_of x.phase ≡ source ∷ target ∷ [] → target.master ≡ master → is_granted (v.handovers target.master x.tablet).role ≡ true → meets gone x.range ≡ false
   target_apart x has source target two at granted =
       grind (arith, false≢true, is_granted, is_member, lineage_of, or_right, or_left, eq-eqb, outside)
 
   -- ---- masters that rebuild
 
-  -- where the master rebuilds a tablet, it is another one
+  -- a tablet that the master rebuilds is another one
   rebuilder_apart : (x : Row) → Contains v.rows x → (lineage : List Member) (to : ℕ) → x.phase ≡ Rebuilding lineage to → to ≡ master → (v.handovers to x.tablet).term ≡ x.term → (v.handovers to x.tablet).range ≡ x.range → meets gone x.range ≡ false
   rebuilder_apart x has lineage to is at term range =
       let handover : Handover = v.handovers to x.tablet in

@@ -39,7 +39,7 @@ module _ (v : View) (master number : ℕ) (pulling : Pulling) (sound : SoundView
 
 -- ---- the world
 
--- a view where a tablet serves, and nothing of it is pulled, gathered or merged
+-- a view in which a tablet serves, and nothing of it is pulled, gathered or merged
 abbrev pub owned_view : View → ℕ → ℕ → View
 owned_view v master number =
     pulled (role_taken v master number (as_serving (v.handovers master number)) no_gather []) master number (λ old. pulling_from 0)

@@ -20,7 +20,7 @@ IsOutside OutsideRebuilder = ⊤
 IsOutside Bystander = ⊤
 IsOutside _ = ⊥
 
--- one that rebuilds it from without is none
+-- a master that rebuilds the row from outside its lineage has such a post
 pub heir_outside : (lineage : List Member) (master : ℕ) → is_member lineage master ≡ false → IsOutside (rebuilder_post lineage master)
 heir_outside lineage master outside = grind (arith, rebuilder_post, false≢true, inside_heir)
 

@@ -69,7 +69,7 @@ module _ (v : View) (row : Row) (master : ℕ) (new : Handover) (gather : Gather
   pub behind : (lineage : List Member) → row.phase ≡ Rebuilding lineage master → new.term < row.term
   behind lineage is = grind (arith, rebuilding_behind, bond_of, post_of)
 
-  -- where the row has two members, the master keeps its term, and so does each
+  -- if the row has two members, the master keeps its term, and so does each other one
   kept_of_two : (source target : Member) → lineage_of row.phase ≡ source ∷ target ∷ [] → new.term ≡ old.term
   kept_of_two source target is = grind arith
 
@@ -140,7 +140,7 @@ module _ (v : View) (row : Row) (master : ℕ) (new : Handover) (gather : Gather
       target.master (λ was granted. absurd (both_ways (is_granted new.role) (steady_granted new.role may.steady) granted))
   members _ = λ fit. fit
 
-  -- what a source told is what it keeps
+  -- what a source handed over is what it keeps
   told : (lineage : List Member) → lineage_of row.phase ≡ lineage → HandedFits row v.handovers v.completions v.handed lineage → HandedFits row now.handovers v.completions v.handed lineage
   told (source ∷ target ∷ []) is fit = grind (arith, term_of_two, ends_of, by, was, target.master, source.master)
   told _ is fit = fit

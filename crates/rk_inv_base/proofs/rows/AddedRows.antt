@@ -4,7 +4,7 @@ use Rattle.rk_inv_base.proofs.Words.{arith, ◌⊎◌, inl, inr, is_some, nat_le
 use Rattle.rk_inv_base.proofs.Words.{is_covered, placed, row_of, Row, behind_stands, or_right, Any-from_list_any, meets_any}
 use Rattle.rk_inv_base.proofs.Base.{contains_cases, all_by, none_pass, found_any}
 
--- what stands then is the new one, or stood before
+-- what is there then is the new row, or was there before
 pub stood_placed : (row x : Row) (rows : List Row) → Contains (placed row rows) x → (x ≡ row) ⊎ Contains rows x
 stood_placed row x [] stands = grind (arith, contains_cases)
 stood_placed row x (first ∷ rest) stands = go (nat_le row.tablet first.tablet) (stood_placed row x rest) stands
@@ -19,7 +19,7 @@ stood_placed row x (first ∷ rest) stands = go (nat_le row.tablet first.tablet)
         ⊎_elim (λ (is : x ≡ row). inl is) (λ (before : Contains rest x). inr (behind_stands first rest x before)) (later behind))
         (contains_cases first (placed row rest) x stands)
 
--- what stood before stands then
+-- what was there before is there then
 pub stands_placed : (row x : Row) (rows : List Row) → Contains rows x → Contains (placed row rows) x
 stands_placed row x [] stands = absurd (omega (arith, stands.1))
 stands_placed row x (first ∷ rest) stands = go (nat_le row.tablet first.tablet) (stands_placed row x rest)
@@ -31,7 +31,7 @@ stands_placed row x (first ∷ rest) stands = go (nat_le row.tablet first.tablet
         (λ (behind : Contains rest x). behind_stands first (placed row rest) x (later behind))
         (contains_cases first rest x stands)
 
--- and so does the new one
+-- and so is the new row
 pub new_placed : (row : Row) (rows : List Row) → Contains (placed row rows) row
 new_placed row [] = (0, omega arith, refl)
 new_placed row (first ∷ rest) = go (nat_le row.tablet first.tablet) (new_placed row rest)

@@ -14,7 +14,7 @@ module _ (v : View) (tablet : ℕ) (range : Range) (master : ℕ) (unsaid : (ten
   some_row [] n known = absurd (cc known)
   some_row (x ∷ rows) n known = (x, (0, omega arith, refl))
 
-  -- what is said of another row tells that a report comes from a master
+  -- what is said of another row shows that a report comes from a master
   pub says_new : (from to : Node) (body : Body) → IfSome (tenure_in body) (λ tenure. is_some (row_of v.rows tenure.tablet) ≡ true) → IfSome (range_in body) (λ r. meets range r ≡ false) → ((x : Row) → Contains v.rows x → SaysIn v x from to body) → SaysIn (added v tablet range master) (new_row tablet range master) from to body
   says_new from to (bodies.Prepare prepare) known away was = grind (arith, if_any, meets, false≢true, prepare.tenure, prepare.range)
   says_new from to (bodies.Ready ready) known away was =

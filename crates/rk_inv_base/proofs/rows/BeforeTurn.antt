@@ -5,7 +5,7 @@ use Rattle.rk_inv_base.proofs.Words.{All-contains, ⊤, Phase, Owned, Opening, R
 use Rattle.rk_inv_base.proofs.Words.{HandoverFits, View, SoundView, MayFollowClose}
 use Rattle.rk_inv_base.proofs.views.ByRows.{row_in}
 
--- what counts at a term counted at one that is not greater, if it is at most that
+-- what counts at a term counted at a term that is not greater, if its own is at most that
 pub counted_before : (live : Bool) (own old new : ℕ) → own ≤ old → old ≤ new → StillCounts live own new → StillCounts live own old
 counted_before live own old new low grows counting =
     ⊎_elim (λ (lives : live ≡ true). inl lives) (λ (at : own ≡ new). inr (omega (arith, at, low, grows))) counting
@@ -30,6 +30,6 @@ module _ (v : View) (row : Row) (term : ℕ) (phase : Phase) (sound : SoundView 
   pub none_rebuilds : (q : ℕ) → v.live q ≡ true → IsRebuiltBy row.phase q → ⊥
   none_rebuilds q lives by = grind arith
 
-  -- no mark of the tablet stands
+  -- there is no mark of the tablet
   pub none_marked : (q : ℕ) → All (λ mark. mark.tablet ≡ row.tablet → MarkFits (row_at row term phase) q (v.handovers q row.tablet) (v.live q) (v.written q) mark) (v.written q).marks
   none_marked q = grind (arith, row_at, row_in)

@@ -16,7 +16,7 @@ use Rattle.rk_inv_base.proofs.rows.RowTurned.{view_turned}
 
 -- ---- who takes a row over
 
--- a phase whose row passes on to a master where another one is noticed dead
+-- a phase whose row passes on to a master when another one is noticed dead
 abbrev pub PassesTo : ℕ → Phase → ℕ → Type 0
 PassesTo dead (Owned master from) to = master ≡ dead
 PassesTo dead (Opening source sfrom target dfrom) to = (source ≡ dead) ⊎ ((target ≡ dead) × (source ≡ to))
@@ -83,7 +83,7 @@ pub record IsBetween (start count number : ℕ) : Type 0 where
 pub first_here : (test : ℕ → Bool) (start count number : ℕ) → IsBetween start (suc count) number → test number ≡ true → ((number ≡ start → ⊥) → IsBetween (start + 1) count (unwrap_or (find test (range_with_len (start + 1) count)) 0)) → IsBetween start (suc count) (unwrap_or (cond (test start) (Some start) (find test (range_with_len (start + 1) count))) 0)
 first_here test start count number within passes later = grind arith
 
--- the first number of a range that passes, where some number there passes, is within it
+-- the first number of a range that passes, if some number there passes, is within it
 pub first_between : (test : ℕ → Bool) (start count number : ℕ) → IsBetween start count number → test number ≡ true → IsBetween start count (unwrap_or (find test (range_with_len start count)) 0)
 first_between test start zero number within passes = absurd (omega (arith, within.first, within.before))
 first_between test start (suc count) number within passes =
@@ -158,7 +158,7 @@ module _ (v : View) (row : Row) (dead : ℕ) (sound : SoundView v) (crashed : v.
   given_up : (q : ℕ) → v.live q ≡ true → IsRebuiltBy row.phase q → ⊥
   given_up q lives = grind (arith, apart)
 
-  -- what is marked of the members tells nothing new, by the old phase
+  -- what is marked of the members records nothing new, by the old phase
   fit_by : (phase : Phase) → row.phase ≡ phase → MarkedFit v.logs v.written v.stored v.live row.range (lineage_of row.phase)
   fit_by (Rebuilding lineage was) is = rw is (subst (IsRebuiltIn v row) is its.rebuilt).1
   fit_by _ is = marked_fit v row sound has_row some (λ lineage t rebuilt. absurd (cc (sym is ∙ rebuilt))) (lineage_of row.phase)
@@ -179,7 +179,7 @@ module _ (v : View) (row : Row) (dead : ℕ) (sound : SoundView v) (crashed : v.
 
 -- ---- rows, one by one
 
--- what is replaced stands in the same place
+-- what is replaced is in the same place
 pub replaced_there : (before after : List Row) (row new : Row) → IsTabletMap (before ++ row ∷ after) → replaced row.tablet new (before ++ row ∷ after) ≡ before ++ new ∷ after
 replaced_there [] after row new apart = grind (arith, cond-true, eqb, replaced, eq-eqb, row.tablet)
 replaced_there (first ∷ before) after row new apart =
@@ -191,7 +191,7 @@ replaced_there (first ∷ before) after row new apart =
     (ne_eqb first.tablet row.tablet (λ same. omega (arith, less, same)))
     ∙ ap (λ (rest : List Row). first ∷ rest) (replaced_there before after row new apart.1)
 
--- a row may stand at the end of the first part, or at the beginning of the second
+-- a row may be at the end of the first part, or at the beginning of the second
 pub one_further : (before after : List Row) (row : Row) → (before ++ row ∷ []) ++ after ≡ before ++ row ∷ after
 one_further [] after row = refl
 one_further (first ∷ before) after row = ap (λ (rest : List Row). first ∷ rest) (one_further before after row)

@@ -11,7 +11,7 @@ is_inside OutsideRebuilder = false
 is_inside Bystander = false
 is_inside _ = true
 
--- a master with the post of a member, by the tests that tell its post: it is the first member, or has another post
+-- a master with the post of a member, by the tests that decide its post: it is the first member, or has another post
 pub inside_first : (first others : Bool) (one other : Post) → (is_inside other ≡ true → others ≡ true) → is_inside (cond first one other) ≡ true → (first || others) ≡ true
 inside_first true others one other gives is = refl
 inside_first false others one other gives is = gives is

@@ -5,7 +5,7 @@ use Rattle.rk_inv_base.proofs.Base.{same_number, all_by, new_stands, stands_foun
 use Rattle.rk_inv_base.proofs.pulls.Joining.{differ}
 
 module _ (rows : List Row) (old new : Row) (apart : IsTabletMap rows) (has : Contains rows old) (number : new.tablet ≡ old.tablet) (range : new.range ≡ old.range) where
-  -- what stands after a row is replaced is the new one, or stood before and has another number
+  -- what is there after a row is replaced is the new row, or was there before and has another number
   pub stood_apart : (x : Row) → Contains (replaced old.tablet new rows) x → (x ≡ new) ⊎ (Contains rows x × (x.tablet ≡ old.tablet → ⊥))
   stood_apart x stands =
       let found = stands_found rows old apart has in

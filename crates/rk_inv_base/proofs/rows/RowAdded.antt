@@ -22,7 +22,7 @@ use Rattle.rk_inv_base.proofs.rows.AddedSays.{says_new}
 use Rattle.rk_inv_base.proofs.logs.Missed.{Misses, counting_none, drop_missed, from_missed, joined_none, map_elsewhere, material_none}
 use Rattle.rk_inv_base.proofs.logs.Missed.{none_touches}
 
--- where two tests in a row find no fault, neither test passes
+-- if two tests in a row find no fault, neither test passes
 pub no_fault : {X : Type 0} (a b : Bool) (one other : X) → cond a (Some one) (cond b (Some other) None) ≡ None → (a ≡ false) × (b ≡ false)
 no_fault false false one other none = (refl, refl)
 no_fault _ _ one other none = absurd (cc none)

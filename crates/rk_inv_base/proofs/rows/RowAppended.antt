@@ -33,7 +33,7 @@ pub record StaysAs (old new : Handover) : Type 0 where
   pub stages : may_have_staged new.role ≡ may_have_staged old.role
   pub wanted : wanted_place new.role ≡ wanted_place old.role
 
--- the view where a master has one more entry, these calls wait, and this is what the master has of a tablet
+-- the view in which a master has one more entry, these calls wait, and this is what the master has of a tablet
 abbrev pub entry_appended : View → ℕ → ℕ → Entry → (ℕ → NumberMap Call) → Handover → View
 entry_appended v master tablet entry calls new = record v {
   logs = logs_with v master entry;
@@ -52,7 +52,7 @@ pub record RestFits (v now : View) (x : Row) : Type 0 where
   pub goes_on : IsRest v.base x.range (truths v x) (rests now x) v.journal v.asked
   pub tells : (end : Ended) → Contains (told (rests v x)) end → Contains (told (rests now x)) end
 
--- where it is what it was, and the counters are
+-- if it is what it was, and the counters are
 pub rest_fits : (v now : View) (x : Row) → SoundRow v x → rests now x ≡ rests v x → ((q : ℕ) → (now.handovers q x.tablet).counter ≡ (v.handovers q x.tablet).counter) → RestFits v now x
 rest_fits v now x was same counters =
     let Floor : List Entry → Handed → Type 0 = λ list h. IsNext (truths v x ++ list) h.floor in
@@ -66,8 +66,8 @@ rest_fits v now x was same counters =
       tells = λ end. subst (λ (list : List Entry). Contains (told list) end) (sym same);
     }
 
--- what is to be known of a row where a master appends an entry: of two members the first one appends none of the range, nor does one that
--- is idle, has merged or rebuilds the row; and what is staged, a target, and what the last of two members names go on to fit
+-- what is to be known of a row when a master appends an entry: of two members the first one appends none of the range, nor does a master
+-- that is idle, has merged or rebuilds the row; and what is staged, a target, and what the last of two members names go on to fit
 pub record RowGrows (v now : View) (master tablet : ℕ) (entry : Entry) (x : Row) : Type 0 where
   pub first : FirstIsBeside master entry x.range (lineage_of x.phase)
   pub only : (only : Member) → lineage_of x.phase ≡ only ∷ [] → only.master ≡ master → is_joined_in x.range entry ≡ false
@@ -108,7 +108,7 @@ module _ (v : View) (master tablet : ℕ) (entry : Entry) (calls : ℕ → Numbe
 
   -- ---- targets, and what they name
 
-  -- a target of a row, whatever its handover, where each own item of the entry is above those of its source
+  -- a target of a row, whatever its handover, if each own item of the entry is above those of its source
   pub target_grown : (x : Row) (source target : Member) (h : Handover) → (source.master ≡ master → IsBeside x.range entry) → IsPlaced v.written target → (target.master ≡ master → is_joined_in x.range entry ≡ false) → (target.master ≡ master → counts x.range entry ≡ true → All (AreBelow (items_of (member_material v.written x.range source))) (items_in entry)) → IsTargetIn v.written x source target h (v.pullings target.master x.tablet) (get v.handed x.tablet) (v.records target.master) → IsTargetIn now.written x source target h (v.pullings target.master x.tablet) (get v.handed x.tablet) (v.records target.master)
   target_grown x source target h beside placed other above was =
       let q : ℕ = target.master in
@@ -124,7 +124,7 @@ module _ (v : View) (master tablet : ℕ) (entry : Entry) (calls : ℕ → Numbe
       (within v master entry sound q) placed (other at) (above at) was)
       (λ apart. was)))
 
-  -- what the last of two members names, where the entry names nothing
+  -- what the last of two members names, if the entry names nothing
   pub names_grown : (x : Row) (lineage : List Member) → All (IsPlaced v.written) lineage → named_by x.range entry ≡ [] → NamedFit v.written x.range lineage → NamedFit now.written x.range lineage
   names_grown x (source ∷ target ∷ []) placed none fit = λ item there.
       let w : Written = v.written target.master in

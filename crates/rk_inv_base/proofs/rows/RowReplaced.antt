@@ -11,11 +11,11 @@ use Rattle.rk_inv_base.proofs.Base.{SaysIn, SoundRow, SoundBeside, each_row, vie
 use Rattle.rk_inv_base.proofs.Base.{known_turned, new_stands, none_known, stands_found, stands_still}
 use Rattle.rk_inv_base.proofs.rows.OtherRows.{all_others}
 
--- the view where a row is at this term and in this phase, and this is noted of tablets
+-- the view in which a row is at this term and in this phase, and this is noted of tablets
 abbrev pub row_replaced : View → Row → ℕ → Phase → NumberMap Handed → View
 row_replaced v row term phase handed = record v { rows = replaced row.tablet (row_at row term phase) v.rows; handed = handed }
 
--- a row may be replaced where all that is said of rows holds of the new one, no living master is rebuilding the old one, and those calls
+-- a row may be replaced if all that is said of rows holds of the new one, no living master is rebuilding the old one, and those calls
 -- that wait for it wait for its last member still. What is noted of other tablets stays
 pub record MayReplace (v : View) (row : Row) (term : ℕ) (phase : Phase) (handed : NumberMap Handed) : Type 0 where
   pub has_row : Contains v.rows row
@@ -42,7 +42,7 @@ module _ (v : View) (rows : List Row) (handed : NumberMap Handed) (row : Row) (s
   says_as : (from to : Node) (body : Body) → SaysIn v row from to body → SaysIn noted row from to body
   says_as from to body said = grind arith
 
-  -- of a row all holds that held, where the same is noted of its tablet
+  -- of a row all holds that held, if the same is noted of its tablet
   row_noted : SoundRow v row → SoundRow noted row
   row_noted was = grind (arith, target_as, granted_as, lineage_of, says_as)
 

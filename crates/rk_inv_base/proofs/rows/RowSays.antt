@@ -11,7 +11,7 @@ use Rattle.rk_inv_base.proofs.Base.{if_master, by_master, SaysIn}
 
 -- ---- a row that opens and goes on to open
 
--- the target of a row that opens is invited, where any master is
+-- if any master of a row that opens is invited, it is the target
 pub is_target : (source target master : ℕ) (noted : Option ℕ) → cond (eqb source master) OpeningSource (cond (eqb target master) (target_post noted) Bystander) ≡ InvitedTarget → target ≡ master
 is_target source target master noted invited = grind (arith, eqb, target_post, eqb-true)
 

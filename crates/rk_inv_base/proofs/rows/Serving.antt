@@ -26,7 +26,7 @@ serving_stages role serves = grind arith
 pub serves_inside : (post : Post) (role : Role) (term own applied : ℕ) → Holds (bond_of post role) term own applied → is_serving role ≡ true → is_inside post ≡ true
 serves_inside post role term own applied fits serves = grind (arith, quiet_role, outsider)
 
--- what is found stands in the list
+-- what is found is in the list
 pub first_or : (rows : List Row) (first row : Row) (number : ℕ) (later : row_of rows number ≡ Some row → Contains rows row) (here : Bool) → cond here (Some first) (row_of rows number) ≡ Some row → Contains (first ∷ rows) row
 first_or rows first row number later true found = let same : first ≡ row = cc in (0, omega arith, same)
 first_or rows first row number later false found =
@@ -37,7 +37,7 @@ found_stands [] number row found = absurd (cc)
 found_stands (first ∷ rows) number row found =
     first_or rows first row number (found_stands rows number row) (eqb first.tablet number) found
 
--- what holds of the tablet of each row holds of each one that a living master is not absent from
+-- what holds of the tablet of each row holds of each tablet that a living master is not absent from
 pub of_its_row : (v : View) (P : ℕ → Type 0) → RolesOf v → (q number : ℕ) → v.live q ≡ true → is_absent (v.handovers q number).role ≡ false → ((row : Row) → Contains v.rows row → P row.tablet) → P number
 of_its_row v P roles_fit q number lives there each = grind (arith, row_of, is_some, number_of, found_stands)
 

@@ -5,7 +5,7 @@ use Rattle.rk_inv_base.proofs.Words.{false≢true, All-contains, has, Range, IsT
 use Rattle.rk_inv_base.proofs.rows.Apart.{contains_cases, same_number}
 use Rattle.rk_inv_base.proofs.views.Lists.{all_by}
 
--- a row that stands there is found by its number
+-- a row that is there is found by its number
 pub stands_found : (rows : List Row) (row : Row) → IsTabletMap rows → Contains rows row → row_of rows row.tablet ≡ Some row
 stands_found [] row apart (k, within, is) = absurd (omega (arith, within))
 stands_found (first ∷ rest) row apart stands =
@@ -22,7 +22,7 @@ stands_found (first ∷ rest) row apart stands =
 pub behind_first : {X : Type 0} (first : X) (rest : List X) (x : X) → Contains rest x → Contains (first ∷ rest) x
 behind_first first rest x stands = (suc stands.0, omega (arith, stands.1), stands.2)
 
--- what stands after a row is replaced is the new one, or stood before
+-- what is there after a row is replaced is the new row, or was there before
 pub stood : (rows : List Row) (tablet : ℕ) (new x : Row) → Contains (replaced tablet new rows) x → (x ≡ new) ⊎ Contains rows x
 stood [] tablet new x (k, within, is) = absurd (omega (arith, within))
 stood (first ∷ rest) tablet new x stands = go (eqb first.tablet tablet) (stood rest tablet new x) stands
@@ -38,7 +38,7 @@ stood (first ∷ rest) tablet new x stands = go (eqb first.tablet tablet) (stood
         (later behind))
         (contains_cases first (replaced tablet new rest) x stands)
 
--- what stood before is the old one, or stands after
+-- what was there before is the old row, or is there after
 pub stands_still : (rows : List Row) (tablet : ℕ) (old new x : Row) → row_of rows tablet ≡ Some old → Contains rows x → (x ≡ old) ⊎ Contains (replaced tablet new rows) x
 stands_still [] tablet old new x found stands = absurd (cc)
 stands_still (first ∷ rest) tablet old new x found stands =
@@ -57,7 +57,7 @@ stands_still (first ∷ rest) tablet old new x found stands =
         (later found behind))
         (contains_cases first rest x stands)
 
--- the new one stands
+-- the new row is there
 pub new_stands : (rows : List Row) (tablet : ℕ) (old new : Row) → row_of rows tablet ≡ Some old → Contains (replaced tablet new rows) new
 new_stands [] tablet old new found = absurd (cc)
 new_stands (first ∷ rest) tablet old new found = go (eqb first.tablet tablet) (new_stands rest tablet old new) found
@@ -66,7 +66,7 @@ new_stands (first ∷ rest) tablet old new found = go (eqb first.tablet tablet) 
     go true later found = (0, omega arith, refl)
     go false later found = behind_first first (replaced tablet new rest) new (later found)
 
--- what holds of each row holds of each, where it goes on from the old to the new one
+-- what holds of each row holds of each, if it goes on from the old to the new one
 pub all_turned : (P : Row → Type 0) (rows : List Row) (old new : Row) (tablet : ℕ) → Contains rows old → (P old → P new) → All P rows → All P (replaced tablet new rows)
 all_turned P rows old new tablet has goes all =
     all_by P (replaced tablet new rows)
@@ -75,7 +75,7 @@ all_turned P rows old new tablet has goes all =
     (λ (before : Contains rows x). All-contains P rows x all before)
     (stood rows tablet new x stands))
 
--- as many pass a test, where the new one passes it if the old one does
+-- whether any row passes a test stays, if the new one passes it just if the old one does
 pub any_turned : (test : Row → Bool) (rows : List Row) (tablet : ℕ) (old new : Row) → row_of rows tablet ≡ Some old → test new ≡ test old → list_any test (replaced tablet new rows) ≡ list_any test rows
 any_turned test [] tablet old new found same = refl
 any_turned test (first ∷ rest) tablet old new found same =

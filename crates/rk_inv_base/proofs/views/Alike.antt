@@ -1,4 +1,4 @@
--- Handovers that answer alike where the parts ask who answers calls, and who waits for a grant.
+-- Handovers that give the parts the same answers: who answers calls, and who waits for a grant.
 use Rattle.rk_inv_base.proofs.Words.{arith, ◌≡◌, ℕ, Bool, true, cond, ltb, eqb, List, ◌∷◌, Option, Some, None, refl, sym, ap, ◌∙◌, ⊎_elim}
 use Rattle.rk_inv_base.proofs.Words.{inl, inr, option_map, NumberMap, get, Member, Range, Entry, is_serving, Handover, lineage_of, Phase}
 use Rattle.rk_inv_base.proofs.Words.{Moving, Row, Body, Handed, second_of, is_rebuilding, Written, member_truth, is_wanting, second_has}
@@ -17,12 +17,12 @@ pub record IsAlike (old new : Handover) : Type 0 where
 abbrev pub AreAlike : (ℕ → ℕ → Handover) → (ℕ → ℕ → Handover) → Type 0
 AreAlike handovers now = (master number : ℕ) → IsAlike (handovers master number) (now master number)
 
--- one that closes and freezes does so too
+-- a handover that closes answers alike once it is frozen
 pub alike_frozen : (handover : Handover) → handover.role ≡ roles.Closing → IsAlike handover (as_frozen handover)
 alike_frozen handover closing =
     assumption (ap is_serving (sym closing), ap is_rebuilding (sym closing), ap is_wanting (sym closing))
 
--- what a master has still counts as before, where it keeps the same term
+-- what a master has still counts as before, if it keeps the same term
 pub still_counts : (live : Bool) (old new term : ℕ) → new ≡ old → StillCounts live new term → StillCounts live old term
 still_counts live old new term same counts =
     ⊎_elim (λ (lives : live ≡ true). inl lives) (λ (at : new ≡ term). inr (sym same ∙ at)) counts
@@ -45,7 +45,7 @@ handed_for_grant_alike row handovers now handed alike =
 pub handed_by_alike : (row : Row) (handovers now : ℕ → ℕ → Handover) (body : Body) → AreAlike handovers now → handed_by row now body ≡ handed_by row handovers body
 handed_by_alike row handovers now body alike = grind (arith, eqb, second_of, lineage_of)
 
--- what the target of a row that moves has applied, behind what its source told, is the same where as much is applied
+-- what the target of a row that moves has applied, behind what its source handed over, is the same if as much is applied
 pub target_truth_same : (written now : ℕ → Written) (handed : NumberMap Handed) (row : Row) (phase : Phase) → ((range : Range) (m : Member) → member_truth now range m ≡ member_truth written range m) → target_truth now handed row phase ≡ target_truth written handed row phase
 target_truth_same written now handed row (Moving source sfrom target dfrom) same =
     ap (λ (truth : List Entry). option_map (λ h. beginning_in row h ∷ truth) (get handed row.tablet))

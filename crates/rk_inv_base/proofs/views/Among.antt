@@ -1,5 +1,5 @@
--- What stands in lists that others are made of: in what each element gives, among numbers that are taken once, in a first part, and among
--- entries of which those that bear a mark are left out.
+-- What is in lists that are made from others: in what each element gives, in numbers with each taken once, in a first part, and in
+-- entries without those that bear a mark.
 use Rattle.rk_inv_base.proofs.Words.{◌≡◌, ℕ, zero, suc, ◌+◌, ◌<◌, ◌≤◌, ◌&&◌, ◌⊎◌, Bool, true, false, eqb, cond, List, [], ◌∷◌, ◌++◌, Some}
 use Rattle.rk_inv_base.proofs.Words.{refl, sym, ap, ◌∙◌, ⊎_elim, arith, inl, inr, map, take, fold, slice_get, Contains, flat_map, eqb-true}
 use Rattle.rk_inv_base.proofs.Words.{All, All-cons, All-head, All-tail, nat_le, nat_lt, leb-true, ltb-true, and_parts, cond_both}
@@ -9,20 +9,20 @@ use Rattle.rk_inv_base.proofs.Words.{Entry, Mark, is_marked, unmarked}
 
 -- ---- places
 
--- what stands in a list stands at a place
+-- what is in a list is at a place of it
 pub place_in : {X : Type 0} (xs : List X) (x : X) → Contains xs x → (k : ℕ) × (slice_get xs k ≡ Some x)
 place_in [] x stands = absurd (none_stands x stands)
 place_in (y ∷ xs) x stands =
     ⊎_elim (λ (is : y ≡ x). (0, ap Some is)) (λ (behind : Contains xs x). let found = place_in xs x behind in (suc found.0, found.1))
     (stands_cases y xs x stands)
 
--- what stands at a place of a first part
+-- what a list has at one of its first places, its first part has there
 pub taken_at : {X : Type 0} (n : ℕ) (list : List X) (k : ℕ) (x : X) → k < n → slice_get list k ≡ Some x → slice_get (take n list) k ≡ Some x
 taken_at zero list k x within at = absurd (omega (arith, within))
 taken_at (suc n) (y ∷ list) (suc k) x within at = taken_at n list k x (omega (arith, within)) at
 taken_at (suc n) _ _ x within at = at
 
--- what stands at a place of a first part stands there
+-- what a first part has at a place, the list has there
 pub taken_from : {X : Type 0} (n : ℕ) (xs : List X) (k : ℕ) (x : X) → slice_get (take n xs) k ≡ Some x → slice_get xs k ≡ Some x
 taken_from zero xs k x at = absurd (cc at)
 taken_from (suc n) (y ∷ xs) (suc k) x at = taken_from n xs k x at
@@ -50,7 +50,7 @@ to_flat f (z ∷ xs) x y stands gives =
     (λ (behind : Contains xs x). Contains-append_right (f z) (flat_map f xs) y (to_flat f xs x y behind gives))
     (stands_cases z xs x stands)
 
--- what a function makes of an element stands among what it makes
+-- what a function makes of an element is among what it makes of the list
 pub mapped : {X Y : Type 0} (f : X → Y) (xs : List X) (x : X) → Contains xs x → Contains (map f xs) (f x)
 mapped f [] x stands = absurd (none_stands x stands)
 mapped {X} {Y} f (y ∷ xs) x stands =
@@ -58,7 +58,7 @@ mapped {X} {Y} f (y ∷ xs) x stands =
     (λ (behind : Contains xs x). behind_stands (f y) (map f xs) (f x) (mapped f xs x behind))
     (stands_cases y xs x stands)
 
--- and each that stands there is made so
+-- and each of these is made of an element
 pub mapped_from : {X Y : Type 0} (f : X → Y) (xs : List X) (y : Y) → Contains (map f xs) y → (x : X) × Contains xs x × (f x ≡ y)
 mapped_from f [] y stands = absurd (none_stands y stands)
 mapped_from f (x ∷ xs) y stands =
@@ -133,7 +133,7 @@ unmarked_all P marks place (entry ∷ list) all =
     cond_both (is_marked marks place) (unmarked marks (suc place) list) (entry ∷ unmarked marks (suc place) list) (All P) (λ e. later)
     (λ e. All-cons P entry (unmarked marks (suc place) list) (All-head P entry list all) later)
 
--- what is left without a mark stood there
+-- what is left without a mark was in the list
 pub unmarked_stood : (marks : List Mark) (place : ℕ) (list : List Entry) (entry : Entry) → Contains (unmarked marks place list) entry → Contains list entry
 unmarked_stood marks place [] entry stands = stands
 unmarked_stood marks place (first ∷ list) entry stands = go (is_marked marks place) (unmarked_stood marks (suc place) list entry) stands
@@ -146,7 +146,7 @@ unmarked_stood marks place (first ∷ list) entry stands = go (is_marked marks p
         behind_stands first list entry (behind later))
         (stands_cases first (unmarked marks (suc place) list) entry stands)
 
--- and what bears none stands there
+-- and what bears none is left
 pub unmarked_stands : (marks : List Mark) (place k : ℕ) (list : List Entry) (entry : Entry) → slice_get list k ≡ Some entry → is_marked marks (place + k) ≡ false → Contains (unmarked marks place list) entry
 unmarked_stands marks place k [] entry at free = absurd (cc at)
 unmarked_stands marks place zero (first ∷ list) entry at free = grind (arith, is_marked, first_stands, unmarked)
@@ -159,7 +159,7 @@ unmarked_stands marks place (suc k) (first ∷ list) entry at free =
     go true later = later
     go false later = behind_stands first (unmarked marks (suc place) list) entry later
 
--- so what is left stands at a place that bears none
+-- so what is left is at a place that bears none
 pub record StandsFree (marks : List Mark) (place : ℕ) (list : List Entry) (entry : Entry) : Type 0 where
   pub k : ℕ
   pub at : slice_get list k ≡ Some entry

@@ -89,7 +89,7 @@ each_row v sound k d within = record {
   says = λ n m there. sound.messages.of_rows n m there k d within;
 }
 
--- and a row that stands there
+-- and any row that is in it
 pub row_in : (v : View) → SoundView v → (row : Row) → Contains v.rows row → SoundRow v row
 row_in v sound row has = All-contains (SoundRow v) v.rows row (each_row v sound) has
 
@@ -97,7 +97,7 @@ row_in v sound row has = All-contains (SoundRow v) v.rows row (each_row v sound)
 pub waits_for : (rows now : List Row) (old new : ℕ → Handover) (written : Written) (q place : ℕ) (call : Call) (wait : Waits rows old written q place call) (row : Row) → Contains now row → has_key row.range call.table call.key ≡ true → last_of (lineage_of row.phase) ≡ Some wait.last → may_have_staged (new row.tablet).role ≡ true → Waits now new written q place call
 waits_for rows now old new written q place call wait row stands inside is stages = grind arith
 
--- an end that was staged is so where its row stands, tells it and has the term of the tablet
+-- an end that was staged still is if its row is there, has it in its rest, and has the term of the tablet
 pub staged_as : (rows now : List Row) (rest more : Row → List Entry) (q number old new : ℕ) (end : Ended) (staged : IsStagedEnd rows rest q number old end) → Contains now staged.row → Contains (told (more staged.row)) end → new ≡ staged.row.term → IsStagedEnd now more q number new end
 staged_as rows now rest more q number old new end staged stands tells at_term = grind (arith, told)
 

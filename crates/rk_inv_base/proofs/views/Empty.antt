@@ -1,4 +1,4 @@
--- The world where nothing has happened is sound, whatever its history starts from, with any number of masters and backups.
+-- The world in which nothing has happened is sound, whatever its history starts from, with any number of masters and backups.
 use Rattle.rk_inv_base.proofs.Words.{◌≡◌, ℕ, ◌≤◌, false, List, [], length, None, refl, sym, ap, subst, ◌∙◌, arith, All, ◌⊎◌}
 use Rattle.rk_inv_base.proofs.Words.{IfSome, flat_map, All-nil, EachIn, Segments, IsInScanOrder, ends_of, Known, known_length, nothing}
 use Rattle.rk_inv_base.proofs.Words.{known_of, no_base, Master, new_master, tablet_at, is_absent, Tablet, no_tablet, new_world, backup_at}

@@ -1,4 +1,4 @@
--- What stands in a world where nothing has happened: new masters and backups that keep nothing.
+-- What is in a world in which nothing has happened: new masters, and backups that keep nothing.
 use Rattle.rk_inv_base.proofs.Words.{◌≡◌, ℕ, zero, suc, ◌+◌, ◌≤◌, ◌<◌, Bool, cond, eqb, List, [], ◌∷◌, replicate, map, Option, Some, None}
 use Rattle.rk_inv_base.proofs.Words.{refl, ap, ◌∙◌, ◌⊎◌, inl, ⊎_elim, arith, unwrap_or, eq-eqb, ne_eqb, cases_eq, cases_lt, cond-true}
 use Rattle.rk_inv_base.proofs.Words.{cond-false, unsigned_tied, range_with_len, NumberMap, get, Known, nothing, no_segments, Master}
@@ -9,7 +9,7 @@ use Rattle.std.proofs.Common.{get_or}
 abbrev pub with_numbers : {X : Type 0} → (ℕ → X) → List ℕ → NumberMap X
 with_numbers thing numbers = map (λ number. (number, thing number)) numbers
 
--- what is first in such a table is found where the number is its own
+-- the first thing of such a table is found under its own number
 pub found_first : {X : Type 0} (thing : ℕ → X) (n : ℕ) (numbers : List ℕ) (q : ℕ) → get (with_numbers thing (n ∷ numbers)) q ≡ cond (eqb q n) (Some (thing n)) (get (with_numbers thing numbers) q)
 found_first thing n numbers q =
     ap (λ (b : Bool). cond b (Some (thing n)) (get (with_numbers thing numbers) q)) (unsigned_tied q n)
@@ -51,7 +51,7 @@ pub nothing_in : (count place : ℕ) → get_or (replicate count nothing) place 
 nothing_in (suc count) (suc place) = nothing_in count place
 nothing_in _ _ = refl
 
--- each master of a new world is such a one
+-- each master of a new world is fresh
 pub each_fresh : (lane masters backups q : ℕ) → IsFresh q (master_at (new_world lane masters backups) q)
 each_fresh lane masters backups q =
     ⊎_elim
@@ -69,7 +69,7 @@ each_fresh lane masters backups q =
     } in m)
     (found_numbered (λ number. new_master number (replicate backups nothing)) (range_with_len 1 masters) q)
 
--- and one that is there knows of each backup
+-- and a master that is there knows of each backup
 pub there_fresh : (lane masters backups q : ℕ) → IsMaster masters q → master_at (new_world lane masters backups) q ≡ new_master q (replicate backups nothing)
 there_fresh lane masters backups q there =
     ap (λ (o : Option Master). unwrap_or o (new_master q []))

@@ -28,7 +28,7 @@ pub tablet_apart : (master : Master) (number : ℕ) (tablet : Tablet) (other : �
 tablet_apart master number tablet other apart =
     ap (λ (o : Option Tablet). unwrap_or o no_tablet) (get_other master.tablets number tablet other apart)
 
--- what is seen of the tablets of a world where one master keeps another one
+-- what is seen of the tablets of a world in which one master keeps another tablet of a number
 module _ (w : World) (master number : ℕ) (changed : Master) (tablet : Tablet) (here : tablet_at changed number ≡ tablet) (apart : (r : ℕ) → (r ≡ number → ⊥) → tablet_at changed r ≡ tablet_in w master r) where
   pub keeps_with : {X : Type 0} (f : Tablet → X) (q r : ℕ) → f (tablet_in (with_master w master changed) q r) ≡ put2 (λ q r. f (tablet_in w q r)) master number (f tablet) q r
   keeps_with {X} f q r = grind (arith, put2_by, tablet_in, with_master, tablet_at, master_same, master_other, cases_eq)

@@ -20,7 +20,7 @@ use Rattle.rk_inv_base.proofs.logs.Grows.{Extends, counting_extends, drop_extend
 use Rattle.rk_inv_base.proofs.logs.Shares.{drop_none, marked_none}
 use Rattle.rk_inv_base.proofs.calls.Rebuilders.{last_member}
 
--- ---- what was read is read still where each part is that was, where nothing more is known behind, and no more is needed
+-- ---- what was read still is, if each part that was read is, nothing more is known behind it, and no more is needed
 
 module _ (Needed Less : EntryEnd → Type 0) (known known' : Known) (stored stored' : ℕ → List ℕ) (part : (segment : ℕ) (bytes : List ℕ) → IsReadPart Needed known stored segment bytes → IsReadPart Less known' stored' segment bytes) (none : (segment : ℕ) → known_length known segment ≡ 0 → known_length known' segment ≡ 0) (less : (end : EntryEnd) → Less end → Needed end) where
   read_by : (segment : ℕ) (list : List Entry) → AreRead Needed known stored segment list → AreRead Less known' stored' segment list
@@ -59,7 +59,7 @@ pub kept_away : (own : ℕ) (lineage : List Member) → IsAway own (filter (λ m
 kept_away own [] = tt
 kept_away own (member ∷ others) = grind (arith, cond_both, false≢true, eq-eqb, member.master, (kept_away own others))
 
--- so a master that rebuilds a row goes on where no more is needed of others
+-- so a master that rebuilds a row goes on if no more is needed of others
 module _ (row : Row) (lineage : List Member) (master : ℕ) (truth own : List Entry) (Needed Less : ℕ → EntryEnd → Type 0) (known : ℕ → Known) (stored : ℕ → ℕ → List ℕ) (w : Written) (handover : Handover) (completions : Completions) (gather : Gather) (merged : List Ended) (table : List Held) where
   -- by what is needed
   abbrev RebuildsBy : (ℕ → EntryEnd → Type 0) → Type 0
@@ -71,9 +71,9 @@ module _ (row : Row) (lineage : List Member) (master : ℕ) (truth own : List En
       (gathered_weaker Needed Less known stored master less gather.members (subst (IsAway master) (sym was.gather.members_are) (kept_away master lineage))
       was.read)
 
--- ---- what entries tell
+-- ---- what entries record
 
--- what these tell is told by those: items and ends
+-- what these record is recorded by those: items and ends
 abbrev pub AreAmong : List Entry → List Entry → Type 0
 AreAmong these those =
     ((item : Held) → Contains (items_of these) item → Contains (items_of those) item)
@@ -109,14 +109,14 @@ pub tells_among : (these those : List Entry) → TellNoMore these those → AreA
 tells_among these those tells =
     (tells.items, λ end at. All-contains (Contains (told those)) (told these) end tells.ends at)
 
--- so no entry tells anything of these that those do not
+-- so no entry records anything that these record and those do not
 pub none_more : (these those : List Entry) (entry : Entry) → AreAmong these those → TellsMore these those entry → ⊥
 none_more these those entry among =
     ⊎_elim
     (λ (more : HasItemMore these those entry). more.new (among.0 more.item more.wanted))
     (λ (more : TellsEndMore these those entry). more.new (among.1 more.end more.wanted))
 
--- and what those do not tell, fewer do not
+-- and what those do not record, fewer do not
 pub more_than_fewer : (these those fewer : List Entry) (entry : Entry) → AreAmong fewer those → TellsMore these those entry → TellsMore these fewer entry
 more_than_fewer these those fewer entry among =
     ⊎_elim
@@ -125,7 +125,7 @@ more_than_fewer these those fewer entry among =
     (λ (more : TellsEndMore these those entry).
     inr (record { end = more.end; here = more.here; wanted = more.wanted; new = λ at. more.new (among.1 more.end at) }))
 
--- so less is needed where the first member tells more
+-- so less is needed if the first member records more
 pub needs_less : (range : Range) (given_up own more : List Entry) (from : ℕ) (last : Written) (end : EntryEnd) → AreAmong own more → NeedsEnd range given_up more from last end → NeedsEnd range given_up own from last end
 needs_less range given_up own more from last end among needs =
     let before : List Entry = counting range (unmarked_from last.marks from (take needs.place last.entries)) in
@@ -144,7 +144,7 @@ needed_member row written _ q end needed = absurd needed
 
 -- ---- one more entry
 
--- a marked entry is not the last one, where all marks are before it
+-- the last entry is not among the marked ones, if all marks are before it
 pub marked_last : (marks : List Mark) (place : ℕ) (list : List Entry) (entry : Entry) → is_marked marks (place + length list) ≡ false → marked_entries marks place (list ++ entry ∷ []) ≡ marked_entries marks place list
 marked_last marks place [] entry free = grind (arith, cond-false, is_marked)
 marked_last marks place (first ∷ list) entry free =
@@ -203,7 +203,7 @@ sides_extend range sides old new grown =
       parts = grind (arith, counting, flat_map-append, named, filter-append, counts, rest.0);
     }
 
--- and the other tells what it told
+-- and the other records what it recorded
 pub material_pushed : (range : Range) (from : ℕ) (w : Written) (entry : Entry) → AreAmong (material_at range from w) (material_at range from (with_one_more w entry))
 material_pushed range from w entry =
     let list : List Entry = w.entries ++ entry ∷ [] in
@@ -230,12 +230,12 @@ module _ (written : ℕ → Written) (master : ℕ) (entry : Entry) (marked : (q
   abbrev grown : ℕ → Written
   grown = put written master (with_one_more (written master) entry)
 
-  -- what is needed of a row, where its first member has written these and its last one those
+  -- what is needed of a row whose first member has written these and whose last one has written those
   abbrev NeedsBy : Row → Member → Member → Written → Written → EntryEnd → Type 0
   NeedsBy other first last these those =
       NeedsEnd other.range (given_up_of other first.from these) (material_at other.range first.from these) last.from those
 
-  -- no more is needed where the first member may have written the entry
+  -- no more is needed if the first member may have written the entry
   first_grown : (other : Row) (first last : Member) (those : Written) (end : EntryEnd) → NeedsBy other first last (grown first.master) those end → NeedsBy other first last (written first.master) those end
   first_grown other first last those end =
       let old : Written = written first.master in
@@ -250,7 +250,7 @@ module _ (written : ℕ → Written) (master : ℕ) (entry : Entry) (marked : (q
       (given_up_pushed other first.from old entry (marked first.master)) needs))
       (λ apart needs. needs)
 
-  -- so no more is needed of another master than the one that wrote
+  -- so no more is needed of any master but the entry's writer
   pub needed_grown : (other : Row) (lineage : List Member) (q : ℕ) → (q ≡ master → ⊥) → (end : EntryEnd) → NeededOf other grown lineage q end → NeededOf other written lineage q end
   needed_grown other (first ∷ last ∷ []) q away end needed =
       let Needs : Written → Type 0 = λ (w : Written). NeedsBy other first last (grown first.master) w end in (
@@ -275,17 +275,17 @@ any_kept p keep (mark ∷ marks) some =
     either true later some = refl
     either false later some = later some
 
--- what one more entry tells
+-- what one more entry gives
 pub told_cons : {X : Type 0} (f : Entry → List X) (range : Range) (entry : Entry) (list : List Entry) → flat_map f (counting range (entry ∷ list)) ≡ flat_map f (counting range (entry ∷ [])) ++ flat_map f (counting range list)
 told_cons f range entry list =
     ap (flat_map f) (filter-append (counts range) (entry ∷ []) list)
     ∙ flat_map-append f (counting range (entry ∷ [])) (counting range list)
 
--- something is told by the marked entries of a range
+-- something is given by the entries of a list that count for a range
 abbrev pub IsTold : {X : Type 0} → (Entry → List X) → Range → List Entry → X → Type 0
 IsTold f range list x = Contains (flat_map f (counting range list)) x
 
--- what bears some marks tells no more than what bears any
+-- entries that bear some of the marks give no more than those that bear any
 pub told_marked : {X : Type 0} (f : Entry → List X) (range : Range) (some all : List Mark) → ((n : ℕ) → is_marked some n ≡ true → is_marked all n ≡ true) → (place : ℕ) (list : List Entry) (x : X) → IsTold f range (marked_entries some place list) x → IsTold f range (marked_entries all place list) x
 told_marked f range some all more place [] x at = at
 told_marked {X} f range some all more place (entry ∷ list) x at =
@@ -313,7 +313,7 @@ told_marked {X} f range some all more place (entry ∷ list) x at =
     go false true so few many later at = right many (later at)
     go false false so few many later at = later at
 
--- so what a master has of given up rebuilds tells no more than all that it has of rebuilds
+-- so what a master has of given up rebuilds records no more than all that it has of rebuilds
 pub given_up_among : (row : Row) (from : ℕ) (w : Written) → AreAmong (given_up_of row from w) (counting row.range (marked_entries w.marks from (drop from w.entries)))
 given_up_among row from w =
     let more : (n : ℕ) → is_marked (given_up_marks row w.marks) n ≡ true → is_marked w.marks n ≡ true = λ n.
@@ -340,7 +340,7 @@ pub unmarked_none : (place : ℕ) (list : List Entry) → marked_entries [] plac
 unmarked_none place [] = refl
 unmarked_none place (entry ∷ list) = unmarked_none (suc place) list
 
--- so what it has of them is told by any
+-- so what it has of them is recorded by any entries
 pub living_among : (row : Row) (from : ℕ) (w : Written) (those : List Entry) → All (λ mark. mark.tablet ≡ row.tablet → mark.term ≡ row.term) w.marks → AreAmong (given_up_of row from w) those
 living_among row from w those fit =
     let none : given_up_of row from w ≡ [] =
@@ -352,7 +352,7 @@ living_among row from w those fit =
 abbrev pub first_counted : Range → ℕ → Written → ℕ → List Entry
 first_counted range from w count = counting range (unmarked_from w.marks from (take count w.entries))
 
--- an entry that is needed is one of the first ones of a log, where these tell all that is wanted
+-- an entry that is needed is one of the first ones of a log, if these record all that is wanted
 pub needed_within : (range : Range) (given_up own : List Entry) (from : ℕ) (last : Written) (place : ℕ) (entry : Entry) (count : ℕ) → IsNeeded range given_up own from last place entry → AreAmong given_up (own ++ first_counted range from last count) → place < count
 needed_within range given_up own from last place entry count needed among =
     let some : List Entry = first_counted range from last count in

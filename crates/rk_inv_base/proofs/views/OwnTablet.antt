@@ -1,4 +1,4 @@
--- What the invariant says of a row depends on what masters have of the row's tablet alone: where that is the same, it holds as it did.
+-- What the invariant says of a row depends on what masters have of the row's tablet alone: if that is the same, it holds as it did.
 use Rattle.rk_inv_base.proofs.Words.{arith, ◌≡◌, ℕ, List, [], ◌∷◌, eqb, refl, sym, subst, Member, Node, lineage_of, Phase}
 use Rattle.rk_inv_base.proofs.Words.{Rebuilding, Row, Body, second_of, handed_by, Tablet, tablet_seen, handed_for_grant, is_waiting}
 use Rattle.rk_inv_base.proofs.Words.{is_waiting_at, HandedFits, MembersFit, RowIsRebuilt, View, truths, SaysIn, SoundRow}

@@ -1,4 +1,4 @@
--- What is kept for each number, or by each master of each tablet, where one of them is another now.
+-- What is kept for each number, or by each master of each tablet, once one of them is another.
 use Rattle.rk_inv_base.proofs.Words.{arith, ◌≡◌, ℕ, eqb, refl, eq-eqb, ne_eqb, cases_eq, cond-true, cond-false, put, put2}
 
 -- what is put is kept, and each other thing as it was
@@ -12,11 +12,11 @@ put_other old number thing q apart = cond-false (eqb q number) thing (old q) (ne
 pub put_by : {X : Type 0} (old : ℕ → X) (number : ℕ) (change : X → X) (P : X → Type 0) (q : ℕ) → (q ≡ number → P (change (old q))) → ((q ≡ number → ⊥) → P (old q)) → P (put old number (change (old number)) q)
 put_by {X} old number change near q here apart = grind (arith, put_here, put_other, cases_eq)
 
--- what is the thing where it was put, and as it was elsewhere
+-- what is the thing at its number, and as it was at all others
 pub put_is : {X : Type 0} (old : ℕ → X) (number : ℕ) (thing : X) (q : ℕ) (seen : X) → (q ≡ number → seen ≡ thing) → ((q ≡ number → ⊥) → seen ≡ old q) → seen ≡ put old number thing q
 put_is {X} old number thing q seen here apart = put_by old number (λ _. thing) (λ (x : X). seen ≡ x) q here apart
 
--- what is put where it was already changes nothing
+-- putting what is there already changes nothing
 pub put_same : {X : Type 0} (old : ℕ → X) (number : ℕ) → ◌≡◌ {A = ℕ → X} (put old number (old number)) old
 put_same {X} old number i q = put_by old number (λ thing. thing) (λ (x : X). x ≡ old q) q (λ is. refl) (λ apart. refl) i
 

@@ -3,7 +3,7 @@ use Rattle.rk_inv_base.proofs.Words.{arith, ◌≡◌, ℕ, true, both_ways, Mem
 use Rattle.rk_inv_base.proofs.Words.{member_truth, is_wanting, HasJoined, HasRebuilt, Post, bond_of, Holds, with_counter}
 use Rattle.rk_transfer.specs.declared.role.Role.TheVariants as roles
 
--- a role stands for rows and messages as another one did
+-- a role is to rows and messages what another one was
 pub record GoesOn (old new : Role) : Type 0 where
   pub absent : is_absent new ≡ is_absent old
   pub wanting : is_wanting new ≡ is_wanting old

@@ -12,8 +12,8 @@ use Rattle.rk_inv_base.proofs.views.OwnTablet.{row_kept, with_tablets}
 use Rattle.rk_inv_base.proofs.views.Places.{behind_any}
 use Rattle.rk_inv_base.proofs.views.Turned.{IsTurned, of_tablet}
 
--- a master may have this of a row's tablet, and each other tablet stay as it was: it is sound there, and so is the row; and where
--- something of the row waits to be applied, the new role may have staged it as the old one
+-- a master may have this of a row's tablet, and each other tablet stay as it was: it is sound there, and so is the row; and if
+-- something of the row waits to be applied, the new role may have staged it if the old one may
 pub record MayReplaceTablet (v : View) (row : Row) (master : ℕ) (new : Tablet) (tablets : ℕ → ℕ → Tablet) : Type 0 where
   pub has_row : Contains v.rows row
   pub turned : IsTurned v (with_tablets v tablets) master row.tablet new

@@ -5,7 +5,7 @@ use Rattle.rk_inv_base.proofs.Words.{Written, written_by, put, put2, role_taken,
 use Rattle.rk_inv_base.proofs.views.Put.{put_is, put_same, put2_same}
 use Rattle.rk_inv_base.proofs.views.Masters.{master_same, master_other, same_of_all, tablet_here, tablet_apart, keeps_with}
 
--- a view where one master has this log, has written this, and has these records, these calls that wait and this tablet
+-- a view in which one master has this log, has written this, and has these records, these calls that wait and this tablet
 abbrev pub changed_view : View → ℕ → Log → Written → List Held → NumberMap Call → ℕ → Tablet → View
 changed_view v master log written records calls number tablet = record v {
   logs = put v.logs master log;
@@ -19,7 +19,7 @@ changed_view v master log written records calls number tablet = record v {
   merged = put2 v.merged master number tablet.merged_ends;
 }
 
--- a view where one master keeps this of one tablet
+-- a view in which one master keeps this of one tablet
 abbrev pub kept_view : View → ℕ → ℕ → Tablet → View
 kept_view v master number tablet = record v {
   handovers = put2 v.handovers master number tablet.handover;

@@ -1,5 +1,5 @@
--- The law of records: a view stays sound with other records of masters, and with other things that they pulled and gathered, where these fit
--- as before whoever has all of a tablet, a target, a master that made ready, and one that rebuilds.
+-- The law of records: a view stays sound with other records of masters, and with other things that they pulled and gathered, if these fit
+-- as before whoever has all of a tablet, a target, a master that made ready, and a master that rebuilds.
 use Rattle.rk_inv_base.proofs.Words.{◌≡◌, ℕ, true, List, [], ◌∷◌, refl, All, Contains, Gather, get, Held, Member, IsInScanOrder, lineage_of}
 use Rattle.rk_inv_base.proofs.Words.{Phase, Rebuilding, Row, Pulling, IsItemWithin, post_of, MembersFit, is_granted, HasItems}
 use Rattle.rk_inv_base.proofs.Words.{has_all_items, View, truths, SoundView, Contains-get_or}
@@ -20,7 +20,7 @@ RebuildsBy v row lineage to gather records =
 abbrev pub RebuildsWith : View → Row → List Member → ℕ → List Held → Type 0
 RebuildsWith v row lineage to records = RebuildsBy v row lineage to (v.gathers to row.tablet) records
 
--- what masters keep beside their logs may be replaced where it goes on to fit each row
+-- what masters keep beside their logs may be replaced if it goes on to fit each row
 pub record MayKeep (v : View) (records : ℕ → List Held) (pullings : ℕ → ℕ → Pulling) (gathers : ℕ → ℕ → Gather) : Type 0 where
   pub within : (q : ℕ) → All (IsItemWithin v.rows) (records q)
   pub ordered : (q : ℕ) → IsInScanOrder (records q)
@@ -62,7 +62,7 @@ module _ (v : View) (records : ℕ → List Held) (pullings : ℕ → ℕ → Pu
       rebuilt _ (Contains-get_or v.rows k d within) _ refl (sound.rebuilds.rebuilt k d within) in
       assumption (λ (q number : ℕ). may.bare q number (sound.receives.bare q number))
 
--- where nothing else changes, only targets see what is pulled
+-- if nothing else changes, only targets see what is pulled
 pub view_with_pullings : (v : View) (pullings : ℕ → ℕ → Pulling) → SoundView v → ((row : Row) → Contains v.rows row → (source target : Member) → lineage_of row.phase ≡ source ∷ target ∷ [] → is_granted (v.handovers target.master row.tablet).role ≡ true → IsTargetOf v v row source target → IsTargetOf v (record v { pullings = pullings }) row source target) → SoundView (record v { pullings = pullings })
 view_with_pullings v pullings sound targets = view_with_kept v v.records pullings v.gathers sound (assumption)
 

@@ -7,7 +7,7 @@ use Rattle.rk_inv_base.proofs.Words.{PulledAgrees, GotAgrees, NeededOf, scan_ite
 use Rattle.rk_types.specs.declared.node.Node.TheVariants as nodes
 use Rattle.rk_inv_base.proofs.views.Seen.{AllLook}
 
--- what is said where a node is a master, it says as well where that follows
+-- what is said of a node if it is a master may be replaced by what follows from it
 pub if_master : (node : Node) (Fits Gives : ℕ → Type 0) → ((master : ℕ) → Fits master → Gives master) → IfMaster node Fits → IfMaster node Gives
 if_master (nodes.Master master) Fits Gives gives fits = gives master fits
 if_master node Fits Gives gives fits = fits
@@ -16,7 +16,7 @@ pub by_master : (node : Node) (Fits Gives : ℕ → Type 0) → ((master : ℕ) 
 by_master (nodes.Master master) Fits Gives gives fits = gives master fits
 by_master node Fits Gives gives fits = fits
 
--- what is said under a condition, it says as well under it where that follows
+-- and so may what is said under a condition
 pub then : {A X Y : Type 0} → (X → Y) → (A → X) → A → Y
 then gives fits is = gives (fits is)
 
@@ -35,13 +35,13 @@ module _ (row : Row) (old new : Handover) (live : Bool) (master : ℕ) (rises : 
   pub release_rises : (tenure : Tenure) → ReleaseFits row old live master tenure → ReleaseFits row new live master tenure
   release_rises tenure fits = grind arith
 
-  -- a Grant, where the master waits only if it waited at the term
+  -- a Grant, when the master waits only if it did at the same term
   pub grant_rises : (handed : Option Handed) (grant : Grant) → (is_wanting new.role ≡ true → (new.term ≡ old.term) × (is_wanting old.role ≡ true)) → GrantAgrees row old live handed master grant → GrantAgrees row new live handed master grant
   grant_rises handed grant waited agrees = grind arith
 
 -- ---- between source and target
 
--- what is said of a target that pulls, and to it, where each tablet looks as before
+-- what is said of a target that pulls, and to it, if each tablet looks as before
 module _ (row : Row) (written written' : ℕ → Written) (handovers handovers' : ℕ → ℕ → Handover) (live : ℕ → Bool) (looks : AllLook written written' handovers handovers') where
   -- what a target asks is of its tablet as before
   of_target_now : (master : ℕ) (tenure : Tenure) → IsOfTarget row (handovers' master row.tablet) tenure → IsOfTarget row (handovers master row.tablet) tenure
@@ -74,7 +74,7 @@ NeedNoMore written written' live =
 
 -- ---- all kinds
 
--- what a message says of a row, it says where each tablet looks as before, and backups are known to hold as much
+-- what a message says of a row, it still says if each tablet looks as before, and backups are known to hold as much
 module _ (v : View) (logs' : ℕ → Log) (written' : ℕ → Written) (handovers' : ℕ → ℕ → Handover) (looks : AllLook v.written written' v.handovers handovers') (same : (q : ℕ) → (logs' q).known ≡ (v.logs q).known) (less : NeedNoMore v.written written' v.live) where
   abbrev after : View
   after = record v { logs = logs'; written = written'; handovers = handovers' }

@@ -1,4 +1,4 @@
--- What messages say of a row once masters have other things of its tablet: they say what they said, where master by master they do.
+-- What messages say of a row once masters have other things of its tablet: they say what they said, if master by master they do.
 use Rattle.rk_inv_base.proofs.Words.{◌≡◌, ℕ, ◌≤◌, refl, List, [], ◌∷◌, get, Member, Node, lineage_of, Row, Tenure, Body, Got, Grant, Pulled}
 use Rattle.rk_inv_base.proofs.Words.{Rebuilt, Tablet, Transfer, tablet_seen, AskAgrees, GotAgrees, GrantAgrees, IsOfTarget, JoinedIn, OwnFits}
 use Rattle.rk_inv_base.proofs.Words.{PulledAgrees, ReadyIn, RebuiltIn, TransferIn, View, SaysIn, arith, AfterMove}
@@ -6,7 +6,7 @@ use Rattle.rk_message.specs.declared.message.Body.TheVariants as bodies
 use Rattle.rk_inv_base.proofs.views.OwnTablet.{with_tablets}
 use Rattle.rk_inv_base.proofs.wire.Messages.{by_master, close_rises, if_master, prepare_rises, rebuild_rises, release_rises, then}
 
--- what a message that a master sends or is sent says of a row, it says where the master has this of the tablet instead of that
+-- what a message that a master sends or is sent says of a row, it still says if the master has the new tablet instead of the old one
 pub record SaysAlike (v : View) (x : Row) (q : ℕ) (old new : Tablet) : Type 0 where
   pub grows : old.handover.term ≤ new.handover.term
   pub owned : (tenure : Tenure) → OwnFits x old.handover (v.live q) q tenure → OwnFits x new.handover (v.live q) q tenure
@@ -26,7 +26,7 @@ pub record SaysAlike (v : View) (x : Row) (q : ℕ) (old new : Tablet) : Type 0 
       (source target : Member) → lineage_of x.phase ≡ source ∷ target ∷ [] → target.master ≡ q → (tenure : Tenure) → AfterMove x tenure
       → IsOfTarget x new.handover tenure → IsOfTarget x old.handover tenure
 
--- of what stays it does
+-- of a tablet that stays it does
 pub says_itself : (v : View) (x : Row) (q : ℕ) (tablet : Tablet) → SaysAlike v x q tablet tablet
 says_itself v x q tablet = grind arith
 
