@@ -40,9 +40,9 @@ impl Sizes {
 
 /// The plan that these words name: `drive CLIENTS CALLS KEYS`, then `crash M AFTER`, then `history`, each of the last two or not.
 ///
-/// CLIENTS is 1 to 64, CALLS at least 1, and both together make at most 200,000 calls; KEYS is 1 to 100,000, M is 1 or 2, and AFTER 1 to the
-/// count of all calls. Numbers are decimal digits without a sign and without a leading zero. `BadNumber` comes if a number is none of these,
-/// and `WordCount` if the words are of no such form.
+/// CLIENTS is 1 to 64, CALLS at least 1, and both together make at most 200,000 calls; KEYS is 1 to 100,000, M is 1 or 2, and AFTER 1 to
+/// the count of all calls. Numbers are decimal digits without a sign and without a leading zero. `BadNumber` comes if a number is none of
+/// these, and `WordCount` if the words are of no such form.
 pub fn plan_of(words: &[String]) -> Result<Plan, Code>
     ensures plan { result ≡ plan_in (map string_bytes words.now) }
     ensures keys { IfOk result (λ plan. 0 < plan.keys) }

@@ -1,4 +1,4 @@
--- What several files of this crate cite of the crates below it, beside the words of `rk_inv_base`, passed on from one place. Declares nothing.
+-- What several files of this crate cite of the crates below it, beside the words of `rk_inv_base`, passed on. Declares nothing.
 pub use Rattle.std.proofs.lemmas.Bool.{not-false, not-true}
 pub use Rattle.std.proofs.lemmas.List.{length_push}
 pub use Rattle.std.specs.List.{position_or_len}

@@ -1,4 +1,4 @@
--- What several files of this crate cite of the crates below it, beside the words of `rk_inv_base`, passed on from one place. Declares nothing.
+-- What several files of this crate cite of the crates below it, beside the words of `rk_inv_base`, passed on. Declares nothing.
 pub use Rattle.std.proofs.lemmas.Bool.{not-true}
 pub use Rattle.std.proofs.lemmas.List.{drop_more, nil_from_length, take_more}
 pub use Rattle.std.proofs.lemmas.List.Kept.{AllPairs-cons}

@@ -1,5 +1,5 @@
--- What a settling command in code makes of a cluster, and of what clients said: `had` is what they had said before it, and `has` what they have
--- said since as well.
+-- What a settling command in code makes of a cluster, and of what clients said: `had` is what they had said before it, and `has` what they
+-- have said since as well.
 use Rattle.std.specs.Prelude.{◌≡◌, ◌++◌, ℕ, [], List, Option, Some}
 use Rattle.rk_types.specs.declared.node.Said.{Said}
 use Rattle.rk_outside.specs.Segments.{Segments}

@@ -75,8 +75,8 @@ impl<R: Replica + Drop, L: Ledger, A: Ledger, N: Roster> KeptLane<R, L, A, N> {
         self.act(Event::Turn(Node::Master(master)))
     }
 
-    // Messages are delivered and forgotten, oldest first, until none is left that a turn delivers. It gives up after 2^64 - 1 of them, as if
-    // memory had run out.
+    // Messages are delivered and forgotten, oldest first, until none is left that a turn delivers. It gives up after 2^64 - 1 of them, as
+    // if memory had run out.
     fn hand_out(&mut self) -> Result<(), Short>
         requires runs { is_some self.old.running ≡ true }
         ensures came { (worn : Option ℕ) → EndsAt result worn → IsHandedOut R.segments self.old self.new worn }
@@ -108,8 +108,8 @@ impl<R: Replica + Drop, L: Ledger, A: Ledger, N: Roster> KeptLane<R, L, A, N> {
         Ok(numbers_with(self.alloc, self.lane.wire(), selection)?)
     }
 
-    /// A turn of the lane: its nodes take theirs, and each message that is for a node is delivered and forgotten, oldest first, but for those
-    /// with pulled records. Answers the numbers of these, oldest first. What the nodes and the deliveries take.
+    /// A turn of the lane: its nodes take theirs, and each message that is for a node is delivered and forgotten, oldest first, but for
+    /// those with pulled records. Answers the numbers of these, oldest first. What the nodes and the deliveries take.
     pub fn turn(&mut self) -> Result<Vec<u64>, Short>
         ensures came { (worn : Option ℕ) → EndsAt result worn → IsTurn R.segments self.old self.new worn }
         ensures left { IfOk result (λ numbers. IfSome self.new.running (λ running. numbers.items ≡ left_to_replays (world_with self.new running []))) }

@@ -1,6 +1,6 @@
 -- The invariant by the things that it speaks of: a row with its members, a master and a tablet, a master with its log, a message, a client,
--- and the journal. These are the sentences of the sixteen parts of `Whole`, each below the name of its part; that both say the same is proved
--- (`parts_and_things` in `rk_inv_base`). What a message says of a row is said of the row as well, since a change of either needs it.
+-- and the journal. These are the sentences of the sixteen parts of `Whole`, each below the name of its part; that both say the same is
+-- proved (`parts_and_things` in `rk_inv_base`). What a message says of a row is said of the row as well, since a change of either needs it.
 use Rattle.std.specs.Prelude.{◌≡◌, ◌≢◌, ◌≤◌, ℕ, true, false, ◌++◌, ◌⊎◌, Some, None, IfSome, All, drop, is_some, length, slice_get}
 use Rattle.std.specs.List.{flat_map, list_any}
 use Rattle.rk_types.specs.Hashing.{hash_of}

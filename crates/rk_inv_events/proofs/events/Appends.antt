@@ -1,5 +1,5 @@
--- A sound lane stays sound when a master sends its backups what they are not known to hold: the rest of the first segment that a backup is not
--- known to hold whole, at the place up to which it is known to hold it.
+-- A sound lane stays sound when a master sends its backups what they are not known to hold: the rest of the first segment that a backup is
+-- not known to hold whole, at the place up to which it is known to hold it.
 use Rattle.std.proofs.Common.{All, Bool, List, None, Option, Some, [], ap, append-nil, arith, cond, drop, false, find, get_or, inl, inr}
 use Rattle.std.proofs.Common.{le-ltb, leb-true, length, length-take-le, lt-ltb, not, option_map, refl, subst, suc, sym, take}
 use Rattle.std.proofs.Common.{take-append-drop, true, zero, ℕ, ◌+◌, ◌-◌, ◌<◌, ◌∙◌, ◌∷◌, ◌≡◌, ◌≤◌, ◌⊎◌}

@@ -1,5 +1,5 @@
--- A sound lane stays sound when a Pull or a Want reaches a master that lives: a frozen source answers with what it has, since what it has applied
--- is all that counts, and another master does nothing.
+-- A sound lane stays sound when a Pull or a Want reaches a master that lives: a frozen source answers with what it has, since what it has
+-- applied is all that counts, and another master does nothing.
 use Rattle.std.proofs.Common.{Contains, List, Some, [], ap, arith, cond, eq-eqb, false, flat_map, inl, is_some, lt-ltb, not, refl, subst}
 use Rattle.std.proofs.Common.{sym, true, ℕ, ◌==◌, ◌∙◌, ◌∷◌, ◌≡◌}
 use Rattle.rk_message.specs.declared.message.Body.TheVariants as bodies

@@ -1,5 +1,5 @@
--- A sound lane stays sound when the coordinator takes a Ready, a Transfer or a Joined. A report does nothing unless it speaks of a row at that
--- row's term.
+-- A sound lane stays sound when the coordinator takes a Ready, a Transfer or a Joined. A report does nothing unless it speaks of a row at
+-- that row's term.
 use Rattle.std.proofs.Common.{arith, Bool, Contains, IfSome, List, None, Option, Some, [], ap, cond, eq-eqb, eqb-true, ne_eqb, refl, subst}
 use Rattle.std.proofs.Common.{sym, true, ℕ, ◌&&◌, ◌==◌, ◌∙◌, ◌∷◌, ◌≡◌, ◌≢◌}
 use Rattle.rk_message.specs.declared.message.Body.TheVariants as bodies

@@ -1,4 +1,4 @@
--- Where a living master serves a tablet, the row of that tablet ends its lineage with it, and has the range that is served: it is the only
+-- If a living master serves a tablet, the row of that tablet ends its lineage with it, and has the range that is served: it is the only
 -- member and has all items, or it was granted the tablet by the first of two. So calls for a key of the range are answered by it.
 use Rattle.std.proofs.Common.{arith, List, Option, Some, [], ap, inl, inr, lt-ltb, refl, true, unwrap_or, ℕ, ◌∙◌, ◌∷◌, ◌≡◌, ◌⊎◌}
 use Rattle.rk_tablet_map.specs.Phase.{member as member_at}
@@ -59,7 +59,7 @@ module _ (handover : Handover) (term applied : ℕ) (serves : is_serving handove
       go (last_heir first last (other ∷ more) here) formed its = absurd formed
       go _ formed its = absurd its
 
--- a living master serves a key by the tablet of this number: calls for the key are answered there, and the tablet's completions are in order
+-- a living master serves a key by the tablet of this number: calls for it are answered there, and the tablet's completions are in order
 pub record IsServedAt (w : World) (master table : ℕ) (key : List ℕ) (number : ℕ) (tablet : Tablet) : Type 0 where
   pub served : IsServed w.coordinator.rows ((view w).handovers master) ((view w).live master) master table key
   pub number_is : served.row.tablet ≡ number

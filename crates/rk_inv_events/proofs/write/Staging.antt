@@ -1,5 +1,5 @@
--- A master that chose to write, or to refuse, may stage the call: it answers calls for the key, the call is its client's last, has no record
--- and is not staged, and what truth and rest leave at its key allows the end.
+-- A master that chose to write, or to refuse, may stage the call: it answers calls for the key, the call is its client's last, has no
+-- record and is not staged, and what truth and rest leave at its key allows the end.
 use Rattle.std.proofs.Common.{Bool, List, None, Option, Some, ap, cond, subst, sym, true, ℕ, ◌∙◌, ◌≡◌}
 use Rattle.rk_model.specs.History.{record_of as map_record_of}
 use Rattle.rk_inv_base.proofs.Words.{Allowed, Call, Choice, HasSegmentLeft, Held, IsMaster, IsSound, IsWellFormed, Master, Outcome, Refuses}

@@ -1,6 +1,6 @@
--- What is so of a master stays so where a call is chosen for, where what waited goes on, and where a tablet is handed over, if it does when the
--- log grows, when items go into the records or are dropped from them, and when a tablet is put. So is what is said of the log, of what is
--- applied of it, of the calls that wait and of the records alone, whatever becomes of the tablets.
+-- What is so of a master stays so when a call is chosen for, when what waited goes on, and when a tablet is handed over, if it does when
+-- the log grows, when items go into the records or are dropped from them, and when a tablet is put. So is what is said of the log, of what
+-- is applied of it, of the calls that wait and of the records alone, whatever becomes of the tablets.
 use Rattle.std.proofs.Common.{arith, All, Bool, List, None, Option, Some, [], cond, length, slice_set, ℕ, ◌∷◌}
 use Rattle.rk_inv_base.proofs.Words.{Call, Choice, Entry, Grant, Handover, Held, Log, Master, NumberMap, Prepare, Range, Refuses, Role}
 use Rattle.rk_inv_base.proofs.Words.{Tablet, Tenure, Wants, Worked, Writes, all_going_on, carried_entry, changed, chosen, close_taken}

@@ -1,5 +1,5 @@
--- What a rebuild copies when it takes its last Copy is logged, each key once, and its master has no more bytes then than before, those of the
--- copies, and a closing entry.
+-- What a rebuild copies when it takes its last Copy is logged, each key once, and its master has no more bytes then than before, those of
+-- the copies, and a closing entry.
 use Rattle.std.proofs.Common.{All, Bool, Contains, List, [], ap, arith, drop, filter, flat_map, length, nat_lt, not, refl, slice_index_or}
 use Rattle.std.proofs.Common.{subst, suc, sym, take, true, zero, ℕ, ⊎_elim, ◌++◌, ◌+◌, ◌-◌, ◌==◌, ◌∙◌, ◌∷◌, ◌≡◌, ◌≤◌, None, Option, Some}
 use Rattle.std.proofs.Common.{false, sum_by}

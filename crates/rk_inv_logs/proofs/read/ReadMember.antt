@@ -1,5 +1,5 @@
--- What counts of a member of which first entries of the log were read, with each side segment that they name: its unmarked entries, first the
--- applied ones, then a first part of the others; then what bears a mark; and then the side segments.
+-- What counts of a member of which first entries of the log were read, with each side segment that they name: its unmarked entries, first
+-- the applied ones, then a first part of the others; then what bears a mark; and then the side segments.
 use Rattle.std.proofs.Common.{◌≡◌, ℕ, zero, suc, ◌+◌, ◌-◌, ◌<◌, ◌≤◌, true, false, List, [], ◌∷◌, ◌++◌, length, max, fold, Some, refl, sym}
 use Rattle.std.proofs.Common.{ap, subst, ◌∙◌, arith, drop, slice_get, take, Contains, flat_map, take-append-drop, inl, inr, drop-drop}
 use Rattle.std.proofs.Common.{length-take}

@@ -20,8 +20,8 @@ own_read v row to = member_material v.written row.range (member_at to (own_place
 abbrev pub read_by_member : View → Row → ℕ → List (List Entry)
 read_by_member v row to = by_member (v.gathers to row.tablet) (own_read v row to)
 
--- the coordinator may take a Rebuilt. That no range of a row is empty, that logs can be read again, and that the master has gathered no more
--- main segments than there can be, is so in each lane that is well formed
+-- the coordinator may take a Rebuilt. That no range of a row is empty, that logs can be read again, and that the master has gathered no
+-- more main segments than there can be, is so in each lane that is well formed
 pub record MayTakeRebuiltFormed (v : View) (row : Row) (lineage : List Member) (to place : ℕ) (ends : List Ended) : Type 0 where
   pub may : MayTakeRebuilt v row lineage to place ends
   pub ranges : All (λ row. row.range.first ≤ row.range.last) v.rows

@@ -1,5 +1,5 @@
--- A view stays sound when an owned row is split in two, and its owner, if it lives, serves both halves: terms and cover, what is staged, the
--- records and the calls.
+-- A view stays sound when an owned row is split in two, and its owner, if it lives, serves both halves: terms and cover, what is staged,
+-- the records and the calls.
 use Rattle.std.proofs.Common.{◌≡◌, ℕ, ◌+◌, ◌≤◌, true, false, Some, refl, sym, ap, ◌∙◌, ⊎_elim, arith, IfSome, is_some, All, Contains}
 use Rattle.std.proofs.Common.{flat_map, Bool, cond, List, [], ◌∷◌, ◌++◌, eqb, leb, ◌⊎◌, inl, inr, drop, filter, max, eq-eqb, slice_index_or}
 use Rattle.rk_inv_base.proofs.Words.{cases_eq, false≢true, All-contains, All-weaker, IfSome_then, hash_of, has, meets, Held, Range, Entry}

@@ -1,5 +1,5 @@
--- What a client sends on its turn is well formed, and its session may act after its turn and after each answer; and a lane stays well formed
--- when a client asks there and when it takes an answer.
+-- What a client sends on its turn is well formed, and its session may act after its turn and after each answer; and a lane stays well
+-- formed when a client asks there and when it takes an answer.
 use Rattle.std.proofs.Common.{◌≡◌, ◌≤◌, ◌++◌, ℕ, Bool, true, false, ◌||◌, [], ◌∷◌, All, Option, None, Some, refl, sym, ap, subst, ◌∙◌}
 use Rattle.std.proofs.Common.{slice_get, IfSome, Ok, not, eqb-true, ◌<◌, max, List, arith, filter, w64}
 use Rattle.rk_inv_wellformed.proofs.Words.{and_parts, cases_eq, All-cons, All-nil, get_other, get_same, get, Call, Body, Message, Visited}

@@ -1,5 +1,5 @@
--- Small changes of a master, and what they leave well formed: of its tablets, its calls, its log and its records; what a tablet waits for goes
--- on, as it freezes or the closing entry of a target is appended; and the tablets that a master gives up.
+-- Small changes of a master, and what they leave well formed: of its tablets, its calls, its log and its records; what a tablet waits for
+-- goes on, as it freezes or the closing entry of a target is appended; and the tablets that a master gives up.
 use Rattle.std.proofs.Common.{◌≡◌, ◌≤◌, ◌<◌, ◌+◌, ◌-◌, ℕ, All, List, [], ◌∷◌, ◌++◌, length, flat_map, filter, not, sym, ap, subst, ◌∙◌}
 use Rattle.std.proofs.Common.{arith, length-append, length-set, ◌==◌, ◌&&◌, Bool, false, true, cond, if◌then◌else◌, refl, w32}
 use Rattle.std.proofs.Common.{unwrap_or, Option, None, Some, nat_lt}

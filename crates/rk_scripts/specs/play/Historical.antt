@@ -8,9 +8,9 @@ use Rattle.rk_play.specs.Played.{Played}
 use Rattle.rk_scripts.specs.play.OneMap.{IsOneMap}
 use Rattle.rk_scripts.specs.play.Steps.{AtEachCluster, AtEachStep, FinishesMoves, HasSoundLanes, OfEvents, RefusesJustly}
 
--- a script that was played began in a new cluster, and its cluster is what the occurrences made of that. These are a run: each may occur when
--- it does, each crash leaves another master alive, and replicas answer what they store. So the cluster is one map; in each cluster passed
--- each lane is sound; each migration that ends leaves the old tablet overlaid by later writes; and each refusal is justified
+-- a script that was played began in a new cluster, and its cluster is what the occurrences made of that. These are a run: each may occur
+-- when it does, each crash leaves another master alive, and replicas answer what they store. So the cluster is one map; in each cluster
+-- passed each lane is sound; each migration that ends leaves the old tablet overlaid by later writes; and each refusal is justified
 pub record IsHistorical (played : Played) : Type 0 where
   pub masters : ℕ
   pub backups : ℕ
