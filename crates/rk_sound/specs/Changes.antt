@@ -43,19 +43,19 @@ use Rattle.rk_sound.specs.Asked.{RequestSays, IsAccepted, IsRequest, WasAsked, H
 -- a message may be sent if it says what the parts ask of it; a message may always be forgotten
 pub record MaySend (v : View) (message : Message) : Type 0 where
   pub terms : All (λ row. SentFits row message.body) v.rows
-  pub logs_say : LogSays v.logs v.stored message.from message.to message.body
-  pub floors :
+  pub logs : LogSays v.logs v.stored message.from message.to message.body
+  pub counters :
       All (λ row. IfSome (handed_by row v.handovers message.body) (λ h. IsNext (truths v row ++ rests v row) h.floor)) v.rows
-  pub ends :
+  pub calls :
       All (λ row. IfSome (handed_by row v.handovers message.body) (λ h. AreHandedOver v.base row.range v.journal h.ends)) v.rows
-  pub within_rows :
+  pub cover :
       IfSome (tenure_in message.body) (λ tenure. is_some (row_of v.rows tenure.tablet) ≡ true)
       × IfSome (range_in message.body) (IsWithinRows v.rows)
-  pub rows_say :
+  pub messages :
       All (λ row. SaysOf row v.logs v.written v.stored v.handovers v.completions v.merged v.live v.handed message.from message.to
       message.body) v.rows
-  pub others_say : Says v.journal message.to message.body
-  pub request_says : RequestSays v.asked v.journal message.from message.body
+  pub replies : Says v.journal message.to message.body
+  pub asked : RequestSays v.asked v.journal message.from message.body
 
 -- ---- what clients ask and accept
 

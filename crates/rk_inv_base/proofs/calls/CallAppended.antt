@@ -98,11 +98,11 @@ module _ (v : View) (master : ℕ) (call : Call) (entry : Entry) (counter : ℕ)
   -- ---- what is staged of the row
 
   rest_is : rests now row ≡ rests v row ++ entry ∷ []
-  rest_is = lineage_grown v master entry sound.logs row.range (lineage_of row.phase) may.served.last was.placed may.served.is_last may.served.here inside
+  rest_is = lineage_grown v master entry sound.logs row.range (lineage_of row.phase) may.served.last was.rows.placed may.served.is_last may.served.here inside
 
   -- a master that counts for the row and speaks for it is the speaker that its phase names
   speaker_at : (q : ℕ) → CountsFor v row q → SpeaksFor v row q → q ≡ speaker_of row.phase
-  speaker_at q counts = speaker_is row q (v.handovers q row.tablet) (v.written q).applied (was.fitting q counts)
+  speaker_at q counts = speaker_is row q (v.handovers q row.tablet) (v.written q).applied (was.roles.fitting q counts)
 
   -- so the master that serves it is that one
   speaker : master ≡ speaker_of row.phase
@@ -129,7 +129,7 @@ module _ (v : View) (master : ℕ) (call : Call) (entry : Entry) (counter : ℕ)
         floor_sent = λ n m there.
             let none : handed_by row v.handovers m.body ≡ None =
             none_hands row v.logs v.written v.stored v.handovers v.completions v.merged v.live v.handed m.from m.to m.body may.served.last
-            (was.says n m there) was.formed may.served.is_last (may.served.here ∙ speaker) serves_last in
+            (was.messages n m there) was.rows.formed may.served.is_last (may.served.here ∙ speaker) serves_last in
             subst (λ (o : Option Handed). IfSome o (λ h. IsNext (truths v row ++ rests now row) h.floor)) (sym none) tt;
         goes_on = subst (λ (list : List Entry). IsRest v.base row.range (truths v row) list v.journal v.asked) (sym rest_is) may.goes_on;
         tells = λ end there.
@@ -142,7 +142,7 @@ module _ (v : View) (master : ℕ) (call : Call) (entry : Entry) (counter : ℕ)
   -- each item of the entry is above each one of its source
   above_its_source : (source target : Member) → lineage_of row.phase ≡ source ∷ target ∷ [] → All (AreBelow (items_of (member_material v.written row.range source))) (items_in entry)
   above_its_source source target is =
-      let first : FirstIsDone v.written row.range (source ∷ target ∷ []) = subst (FirstIsDone v.written row.range) is was.done in
+      let first : FirstIsDone v.written row.range (source ∷ target ∷ []) = subst (FirstIsDone v.written row.range) is was.rest.done in
       All-weaker (λ (item : Held). IsNext (truths v row ++ rests v row) item.version)
       (AreBelow (items_of (member_material v.written row.range source)))
       (λ item low.
@@ -154,7 +154,7 @@ module _ (v : View) (master : ℕ) (call : Call) (entry : Entry) (counter : ℕ)
   members (source ∷ target ∷ []) is placed fit = λ granted.
       let q : ℕ = target.master in
       let apart : source.master ≡ master → ⊥ = λ at.
-      first_not_last source target [] may.served.last (subst AreApart is (formed_apart row.phase was.formed))
+      first_not_last source target [] may.served.last (subst AreApart is (formed_apart row.phase was.rows.formed))
       (ap last_of (sym is) ∙ may.served.is_last) (at ∙ sym may.served.here) in
       let Fits : Handover → Type 0 = λ h. IsTargetIn now.written row source target h (v.pullings q row.tablet) (get v.handed row.tablet)
       (v.records q) in
@@ -197,7 +197,7 @@ module _ (v : View) (master : ℕ) (call : Call) (entry : Entry) (counter : ℕ)
     here = may.served.here;
     from =
         let at : IsPlaced v.written may.served.last =
-        All-contains (IsPlaced v.written) (lineage_of row.phase) may.served.last was.placed
+        All-contains (IsPlaced v.written) (lineage_of row.phase) may.served.last was.rows.placed
         (last_stands (lineage_of row.phase) may.served.last may.served.is_last) in
         subst (λ (n : ℕ). may.served.last.from ≤ length (v.written n).entries) may.served.here at;
     may_stage =
@@ -243,9 +243,9 @@ module _ (v : View) (master : ℕ) (call : Call) (entry : Entry) (counter : ℕ)
         uncounted,
         joins_call row.range call entry may.own,
         rest,
-        members (lineage_of row.phase) refl was.placed was.target,
+        members (lineage_of row.phase) refl was.rows.placed was.receives.target,
         names_grown v master row.tablet entry calls (with_counter counter old) sound.logs may.served.lives stays row (lineage_of row.phase)
-            was.placed (names_call row.range call entry may.own) was.named_items,
+            was.rows.placed (names_call row.range call entry may.own) was.receives.named,
         waiting,
         are_last,
         found,

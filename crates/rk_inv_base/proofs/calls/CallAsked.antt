@@ -93,7 +93,7 @@ module _ (v : View) (client : ℕ) (last : LastCall) (sound : SoundView v) (may 
   none_waits : (q place : ℕ) (call : Call) → Waits v.rows (v.handovers q) (v.written q) q place call → call.client ≡ client → ⊥
   none_waits q place call waits is =
       let of_row =
-      (row_in v sound waits.row waits.has_row).goes_on in
+      (row_in v sound waits.row waits.has_row).rest.goes_on in
       entry_apart call waits.entry waits.own
       (of_waiting (IsStaged v.base v.asked v.journal) v.rows (v.handovers q) v.written q place call waits of_row.staged) is
 

@@ -24,7 +24,7 @@ module _ (v : View) (master : ℕ) (call : Call) (found : ℕ) (absent : Bool) (
     last = last_asked v.asked v.journal call may.ends.last may.ends.same_call;
     goes_on =
         refusal_goes_on v.base row.range (truths v row) (rests v row) v.journal v.asked call found absent
-        (row_in v sound row may.served.has_row).goes_on
+        (row_in v sound row may.served.has_row).rest.goes_on
         may.ends may.leaves;
   }
 

@@ -35,7 +35,7 @@ module _ (v : View) (master : ℕ) (call : Call) (value : Option (List ℕ)) (so
     last = last_asked v.asked v.journal call may.ends.last may.ends.same_call;
     goes_on =
         write_goes_on v.base row.range (truths v row) (rests v row) v.journal v.asked call version value
-        (row_in v sound row may.served.has_row).goes_on
+        (row_in v sound row may.served.has_row).rest.goes_on
         may.ends may.leaves low;
   }
 

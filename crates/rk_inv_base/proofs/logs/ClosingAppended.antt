@@ -167,8 +167,8 @@ module _ (v : View) (row : Row) (master : ℕ) (sound : SoundView v) (has_row : 
         (λ q.
         put2_by v.handovers master row.tablet (as_closed place) (λ (h : Handover). h.counter ≡ (v.handovers q row.tablet).counter) q row.tablet
         (λ _ _. refl) (λ _. refl));
-    target = members (lineage_of row.phase) refl was.placed was.target;
-    named = names (lineage_of row.phase) refl was.placed was.target was.named_items;
+    target = members (lineage_of row.phase) refl was.rows.placed was.receives.target;
+    named = names (lineage_of row.phase) refl was.rows.placed was.receives.target was.receives.named;
     waiting = λ q lives k call there.
         waits_on v master row.tablet closing v.calls (as_closed place old) sound may.lives stays q k call (sound.rest.waiting q lives k call there);
     are_last = sound.rest.are_last;

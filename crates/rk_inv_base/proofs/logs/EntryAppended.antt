@@ -74,7 +74,7 @@ module _ (v : View) (row : Row) (master : ℕ) (entry : Entry) (calls : ℕ → 
   -- the master keeps the row's range
   range_is : (v.handovers master row.tablet).range ≡ row.range
   range_is =
-      was.ranged master (inl may.lives) (last_member (lineage_of row.phase) may.at_end.last master may.at_end.is_last may.at_end.here)
+      was.roles.ranged master (inl may.lives) (last_member (lineage_of row.phase) may.at_end.last master may.at_end.is_last may.at_end.here)
 
   stays_each : (q r : ℕ) → StaysAs (v.handovers q r) (now.handovers q r)
   stays_each = each_stays v master row.tablet entry calls new sound.logs may.lives may.stays

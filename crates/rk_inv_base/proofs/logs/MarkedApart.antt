@@ -73,7 +73,7 @@ module _ (v : View) (row : Row) (sound : SoundView v) (has_row : Contains v.rows
       let own : HasOwnRange other.range (v.written q).entries mark =
       All-contains (λ m. m.tablet ≡ other.tablet → HasOwnRange other.range (v.written q).entries m)
       (v.written q).marks mark
-      ((row_in v sound other stands).pieces q) marked (sym same) in
+      ((row_in v sound other stands).rebuilds.pieces q) marked (sym same) in
       let of : IsOfRange other.range entry =
       All-contains (IsOfRange other.range) (take (mark.past - mark.first) (drop mark.first (v.written q).entries)) entry own inside in
       let apart : meets other.range row.range ≡ false =

@@ -50,7 +50,7 @@ module _ (v : View) (row : Row) (lineage : List Member) (own : ℕ) (sound : Sou
           living_among row first.from (v.written first.master) (told_of first last)
           (All-weaker (λ (mark : Mark). mark.tablet ≡ row.tablet → Fits mark) (λ (mark : Mark). mark.tablet ≡ row.tablet → mark.term ≡ row.term)
           (λ (mark : Mark) fits its. let told = fits its in told.present lives) (v.written first.master).marks
-          ((row_in v sound row has).marks first.master))
+          ((row_in v sound row has).rebuilds.marks first.master))
 
   -- so backup 1 stores what is needed
   pub needed_stored : (members : List Member) → MarkedFit v.logs v.written v.stored v.live row.range members → (q : ℕ) (end : EntryEnd) → NeededOf row v.written members q end → IsStoredEnd (stored_of v.stored q READ_BACKUP) end
@@ -71,7 +71,7 @@ module _ (v : View) (row : Row) (lineage : List Member) (own : ℕ) (sound : Sou
   member_backed : (q : ℕ) → is_member lineage q ≡ true → IsBackup (v.logs q) READ_BACKUP
   member_backed q member =
       let named : names row.phase q ≡ true → IsMaster v.masters q =
-      (row_in v sound row has).named q in
+      (row_in v sound row has).nodes q in
       let there : IsMaster v.masters q =
       named (ap (λ (phase : Phase). names phase q) is ∙ or_right (own == q) (is_member lineage q) member) in
       record { first = omega arith; last = omega (arith, sound.nodes.known q there, sound.nodes.backed) }
@@ -95,7 +95,7 @@ goes_on v row lineage own copy sound has phase term may =
     let gather : Gather = v.gathers own row.tablet in
     let known : ℕ → Known = λ q. known_of (v.logs q) READ_BACKUP in
     let stored : ℕ → ℕ → List ℕ = λ q. stored_of v.stored q READ_BACKUP in
-    let rebuilt : IsRebuiltIn v row (Rebuilding lineage own) = subst (IsRebuiltIn v row) phase (row_in v sound row has).rebuilt in
+    let rebuilt : IsRebuiltIn v row (Rebuilding lineage own) = subst (IsRebuiltIn v row) phase (row_in v sound row has).rebuilds.rebuilt in
     let was = rebuilt.0 term in
     let old : IsGatherOf gather row.range lineage own = was.gather in
     let Needed : ℕ → EntryEnd → Type 0 = NeededOf row v.written lineage in
@@ -106,7 +106,7 @@ goes_on v row lineage own copy sound has phase term may =
     (subst
     (λ (r : Row). IsReadPart (NeededOf r v.written gather.lineage copy.master) (known copy.master) (stored copy.master) copy.segment (read_bytes copy.bytes))
     same may.read) in
-    let apart = subst IsFormed phase (row_in v sound row has).formed in
+    let apart = subst IsFormed phase (row_in v sound row has).rows.formed in
     record {
       gathering = may.gathering;
       gather = assumption (same_members gather.range copy.master copy.segment copy.bytes gather.members ∙ old.members_are);

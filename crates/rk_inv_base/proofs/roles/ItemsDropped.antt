@@ -44,7 +44,7 @@ module _ (v : View) (row : Row) (master : ℕ) (sound : SoundView v) (may : MayR
   -- the role and the term of the master fit each row
   fits : (x : Row) → Contains v.rows x → (q : ℕ) → q ≡ master → RoleFits x q (v.handovers q x.tablet) (v.written q).applied
   fits x has q at =
-      (row_in v sound x has).fitting q (inl (ap v.live at ∙ may.lives))
+      (row_in v sound x has).roles.fitting q (inl (ap v.live at ∙ may.lives))
 
   -- ---- records of a master that has all of a tablet
 

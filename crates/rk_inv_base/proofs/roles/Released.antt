@@ -42,7 +42,7 @@ module _ (v : View) (row : Row) (master : ℕ) (sound : SoundView v) (may : MayR
 
   settled : list_any (touches row.range) (drop applied (v.written master).entries) ≡ false
   settled =
-      (row_in v sound row may.has_row).idle master (inl may.lives) (ap is_idle may.frozen)
+      (row_in v sound row may.has_row).rest.idle master (inl may.lives) (ap is_idle may.frozen)
 
   takes_role : MayTakeRole (items_dropped v master old.range) row master (as_released old)
   takes_role = grind (arith, at_most, is_wanting, fits, post_of, speaks, settled, outside_post, false≢true)

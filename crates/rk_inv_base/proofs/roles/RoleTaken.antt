@@ -207,42 +207,42 @@ module _ (v : View) (row : Row) (master : ℕ) (new : Handover) (gather : Gather
       let none : mark.term ≡ row.term → (row.phase ≡ Rebuilding (lineage_of row.phase) master) × (new.term ≡ row.term) × (has_merged new.role ≡ true) = λ of_term.
       let told = fit.by_rebuilder of_term in absurd (omega (arith, behind (lineage_of row.phase) told.0, at_term told.1)) in
       assumption (none, fit)))
-      (v.written q).marks (was.marks q)
+      (v.written q).marks (was.rebuilds.marks q)
 
   holds : SoundRow now row
   holds =
       assumption (
         λ (q : ℕ).
-            at (λ q h. StillCounts (v.live q) h.term row.term → RoleFits row q h (v.written q).applied) q (λ was counts. may.fits) (was.fitting q),
+            at (λ q h. StillCounts (v.live q) h.term row.term → RoleFits row q h (v.written q).applied) q (λ was counts. may.fits) (was.roles.fitting q),
         λ (q : ℕ).
             at (λ q h. StillCounts (v.live q) h.term row.term → is_member (lineage_of row.phase) q ≡ true → h.range ≡ row.range) q
-            (λ was counts member. may.range_is ∙ was (inl may.lives) member) (was.ranged q),
-        keep_term row.phase was.at_term,
+            (λ was counts member. may.range_is ∙ was (inl may.lives) member) (was.roles.ranged q),
+        keep_term row.phase was.roles.at_term,
         λ (q : ℕ).
             at
             (λ q h. StillCounts (v.live q) h.term row.term → speaks (post_of row.phase q) h row.term ≡ true
             → ReachAll row.range v.journal (ends_of (v.completions q row.tablet)))
-            q (λ was counts says. was (inl may.lives) (may.speaks says)) (was.answering q),
-        rw (← for_grant_same) at was.ends_granted,
-        λ (n : ℕ) (m : Message) (there : get v.wire n ≡ Some m). rw (← by_message_same m.body) at (was.ends_sent n m there),
+            q (λ was counts says. was (inl may.lives) (may.speaks says)) (was.calls.answering q),
+        rw (← for_grant_same) at was.calls.granted,
+        λ (n : ℕ) (m : Message) (there : get v.wire n ≡ Some m). rw (← by_message_same m.body) at (was.calls.sent n m there),
         λ (q : ℕ).
             at (λ q h. StillCounts (v.live q) h.term row.term → speaks (post_of row.phase q) h row.term ≡ true → IsNextOf v row h.counter) q
-            (λ was counts says. rw may.counter_is (was (inl may.lives) (may.speaks says))) (was.counted q),
-        rw (← for_grant_same) at was.floor_granted,
-        λ (n : ℕ) (m : Message) (there : get v.wire n ≡ Some m). rw (← by_message_same m.body) at (was.floor_sent n m there),
+            (λ was counts says. rw may.counter_is (was (inl may.lives) (may.speaks says))) (was.counters.counted q),
+        rw (← for_grant_same) at was.counters.granted,
+        λ (n : ℕ) (m : Message) (there : get v.wire n ≡ Some m). rw (← by_message_same m.body) at (was.counters.sent n m there),
         λ (q : ℕ).
             at
             (λ q h. StillCounts (v.live q) h.term row.term → is_idle h.role ≡ true
             → list_any (touches row.range) (drop (v.written q).applied (v.written q).entries) ≡ false)
-            q (λ was counts idles. may.settled idles) (was.idle q),
+            q (λ was counts idles. may.settled idles) (was.rest.idle q),
         λ (q : ℕ).
             at (λ q h. v.live q ≡ true → has_all_items (post_of row.phase q) h row.term ≡ true → HasItems row v.written (v.records q)) q
-            (λ was lives has. was lives (all_items_before (post_of row.phase master) old new row.term may.grows has)) (was.items q),
-        members (lineage_of row.phase) was.target,
-        told (lineage_of row.phase) refl was.handed_on,
-        row_rebuilt row.phase refl was.rebuilt,
+            (λ was lives has. was lives (all_items_before (post_of row.phase master) old new row.term may.grows has)) (was.tables q),
+        members (lineage_of row.phase) was.receives.target,
+        told (lineage_of row.phase) refl was.receives.handed_on,
+        row_rebuilt row.phase refl was.rebuilds.rebuilt,
         marks,
-        λ (n : ℕ) (m : Message) (there : get v.wire n ≡ Some m). says_still v (tablet_seen now) row says_on m.from m.to m.body (was.says n m there),
+        λ (n : ℕ) (m : Message) (there : get v.wire n ≡ Some m). says_still v (tablet_seen now) row says_on m.from m.to m.body (was.messages n m there),
         was,
       )
 
@@ -251,18 +251,22 @@ module _ (v : View) (row : Row) (master : ℕ) (new : Handover) (gather : Gather
   tablet =
       let its = tablet_of v sound master row.tablet in
       record {
-        kept = all_in _ (λ x. HandoverFits x row.tablet new) v.rows handover_fits its.kept;
-        begun = λ there. omega (arith, its.begun (may.present there), may.grows);
-        apart = λ other apart there other_there. rw may.range_is (its.apart other apart (may.present there) other_there);
-        unknown = λ none. absurd (cc (sym (stands_found v.rows row sound.rows.apart may.has_row) ∙ none));
-        ranges = λ begun.
-            ⊎_elim (λ (same : new.term ≡ old.term). rw may.range_is (its.ranges (rw same at begun)))
-            (λ (rise : MayRise row master new).
-            rw rise.range_is (λ hash inside. covered_by v.rows row row.range.table hash may.has_row inside))
-            may.term_is;
-        has_row = λ lives there. its.has_row lives (may.present there);
-        known = λ lives. All-weaker _ _ end_known (ends_of (v.completions master row.tablet)) (its.known lives);
-        bare = steady_place new.role _ may.steady;
+        terms = record {
+          kept = all_in _ (λ x. HandoverFits x row.tablet new) v.rows handover_fits its.terms.kept;
+          begun = λ there. omega (arith, its.terms.begun (may.present there), may.grows);
+          apart = λ other apart there other_there. rw may.range_is (its.terms.apart other apart (may.present there) other_there);
+        };
+        cover = record {
+          unknown = λ none. absurd (cc (sym (stands_found v.rows row sound.rows.apart may.has_row) ∙ none));
+          ranges = λ begun.
+              ⊎_elim (λ (same : new.term ≡ old.term). rw may.range_is (its.cover.ranges (rw same at begun)))
+              (λ (rise : MayRise row master new).
+              rw rise.range_is (λ hash inside. covered_by v.rows row row.range.table hash may.has_row inside))
+              may.term_is;
+        };
+        roles = λ lives there. its.roles lives (may.present there);
+        calls = λ lives. All-weaker _ _ end_known (ends_of (v.completions master row.tablet)) (its.calls lives);
+        receives = steady_place new.role _ may.steady;
       }
 
   pub view_role_taken : SoundView now

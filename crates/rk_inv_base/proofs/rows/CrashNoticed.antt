@@ -140,7 +140,7 @@ module _ (v : View) (row : Row) (dead : ℕ) (sound : SoundView v) (crashed : v.
   named q names_it =
       ⊎_elim (λ (takes : eqb to q ≡ true). subst (IsMaster v.masters) (eqb-true to q takes) there)
       (λ (inside : is_member (lineage_of row.phase) q ≡ true).
-      its.named q (names_members row.phase q inside))
+      its.nodes q (names_members row.phase q inside))
       (or_cases (eqb to q) (is_member (lineage_of row.phase) q) names_it)
 
   -- only what a living master has counts at the next term
@@ -150,7 +150,7 @@ module _ (v : View) (row : Row) (dead : ℕ) (sound : SoundView v) (crashed : v.
   posts : (q : ℕ) → StillCounts (v.live q) (v.handovers q row.tablet).term next → MayTakePost (post_of row.phase q) (post_of new q) row.term next (v.handovers q row.tablet) (v.written q).applied
   posts q counting =
       noticed_post dead to q (apart q (living q counting)) row.term (v.handovers q row.tablet) (v.written q).applied (low q) row.phase passes
-      (its.fitting q (inl (living q counting)))
+      (its.roles.fitting q (inl (living q counting)))
 
   closes : (q order : ℕ) → v.live q ≡ true → (v.handovers q row.tablet).term < order → MayFollowClose row q order → MayFollowClose (row_at row next new) q order
   closes q order lives below follows = grind (arith, apart, post_of, noticed_rebuilder)
@@ -160,7 +160,7 @@ module _ (v : View) (row : Row) (dead : ℕ) (sound : SoundView v) (crashed : v.
 
   -- what is marked of the members records nothing new, by the old phase
   fit_by : (phase : Phase) → row.phase ≡ phase → MarkedFit v.logs v.written v.stored v.live row.range (lineage_of row.phase)
-  fit_by (Rebuilding lineage was) is = rw is (subst (IsRebuiltIn v row) is its.rebuilt).1
+  fit_by (Rebuilding lineage was) is = rw is (subst (IsRebuiltIn v row) is its.rebuilds.rebuilt).1
   fit_by _ is = marked_fit v row sound has_row some (λ lineage t rebuilt. absurd (cc (sym is ∙ rebuilt))) (lineage_of row.phase)
 
   -- a mark of the tablet is of an older term now
@@ -175,7 +175,7 @@ module _ (v : View) (row : Row) (dead : ℕ) (sound : SoundView v) (crashed : v.
       let term_is : (row.term < next) ⊎ ((next ≡ row.term) × OpensOn row.phase new) = inl (omega arith) in
       let rebuilt : RowIsRebuilt (row_at row next new) new (truths v row) v.logs v.written v.stored v.handovers v.completions v.gathers v.merged v.records v.live =
       (λ at. let below = low to in absurd (omega (arith, at, below)), fit_by row.phase refl) in
-      assumption (formed_apart row.phase its.formed, named, posts, closes, given_up, marks)
+      assumption (formed_apart row.phase its.rows.formed, named, posts, closes, given_up, marks)
 
 -- ---- rows, one by one
 

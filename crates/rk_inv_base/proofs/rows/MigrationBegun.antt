@@ -31,7 +31,7 @@ module _ (v : View) (row : Row) (to : ℕ) (sound : SoundView v) (may : MayMigra
   named q there =
       ⊎_elim
       (λ (owns : eqb may.owner q ≡ true).
-      its.named q (ap (λ (phase : Phase). names phase q) may.phase_is ∙ owns))
+      its.nodes q (ap (λ (phase : Phase). names phase q) may.phase_is ∙ owns))
       (λ (takes : eqb to q ≡ true). subst (IsMaster v.masters) (eqb-true to q takes) may.there)
       (or_cases (eqb may.owner q) (eqb to q) there)
 

@@ -25,7 +25,7 @@ module _ (v : View) (row : Row) (source sfrom target place : ℕ) (sound : Sound
   its = row_in v sound row may.has_row
 
   named : (q : ℕ) → names noted q ≡ true → IsMaster v.masters q
-  named q there = its.named q (ap (λ (phase : Phase). names phase q) may.phase_is ∙ there)
+  named q there = its.nodes q (ap (λ (phase : Phase). names phase q) may.phase_is ∙ there)
 
   -- only the post of the target is another one
   posts_by : (q : ℕ) (a b : Bool) → eqb target q ≡ b

@@ -272,48 +272,58 @@ module _ (v : View) (tablet : ℕ) (range : Range) (master : ℕ) (sound : Sound
 
   holds : SoundRow now row
   holds = record {
-    named = λ q is. subst (IsMaster v.masters) (eqb-true master q is) may.there;
-    begun = omega arith;
-    formed = tt;
-    placed = All-cons (IsPlaced v.written) own [] (omega arith) (All-nil (IsPlaced v.written));
-    sent = λ n m there.
+    nodes = λ q is. subst (IsMaster v.masters) (eqb-true master q is) may.there;
+    rows = record {
+      begun = omega arith;
+      formed = tt;
+      placed = All-cons (IsPlaced v.written) own [] (omega arith) (All-nil (IsPlaced v.written));
+    };
+    terms = λ n m there.
         sent_new m.body (sound.cover.sent n m there) (both_some (range_in m.body) (may.orders n m there) (sound.cover.ordered n m there));
-    fitting = λ q counts.
-        by_post (λ q post h. Holds (bond_of post h.role) 1 h.term (v.written q).applied) q refl
-        (λ away. absent_fits (v.handovers q tablet).role _ (v.written q).applied (term_none q) (absent_before q));
-    ranged = λ q counts inside. ranged_new q inside;
-    at_term = tt;
+    roles = record {
+      fitting = λ q counts.
+          by_post (λ q post h. Holds (bond_of post h.role) 1 h.term (v.written q).applied) q refl
+          (λ away. absent_fits (v.handovers q tablet).role _ (v.written q).applied (term_none q) (absent_before q));
+      ranged = λ q counts inside. ranged_new q inside;
+      at_term = tt;
+    };
     truth = grind (arith, truth_none, untouched);
-    above = subst (λ (l : List Entry). AreAbove (items_of (truths v row)) (items_of l)) (sym rest_none) tt;
-    reached = none_reached (λ p. IsReached (told (of_key p.call.table p.call.key (truths v row))) p);
-    recorded = subst (λ (l : List Entry). All (IsKnown v.base v.journal) (told l)) (sym truth_none) (All-nil (IsKnown v.base v.journal));
-    moving = tt;
-    answering = λ q counts says. none_reached (IsReached (ends_of (v.completions q tablet)));
-    ends_granted = tt;
-    ends_sent = λ n m there. rw (none_for_owned tablet 1 range master 0 now.handovers m.body) tt;
-    low = grind (arith, map_after, base_map, truth_none, last_version, untouched, v.base, v.journal);
-    low_moving = tt;
-    counted = λ q counts.
-        by_post (λ q post h. speaks post h 1 ≡ true → IsNextOf v row h.counter) q (λ says. rw (truth_none, rest_none) (omega arith))
-        (λ away says. absurd (false≢true (sym (silent (v.handovers q tablet).role (absent_before q)) ∙ says)));
-    floor_granted = tt;
-    floor_sent = λ n m there. rw (none_for_owned tablet 1 range master 0 now.handovers m.body) tt;
-    goes_on = grind (arith, truth_none, rest_none, base_map, append-nil, live_after, untouched, v.base, v.journal, sound.truth.legal);
-    done = tt;
-    unnamed = joined_none range (drop _ (v.written master).entries) (drop_missed range _ (v.written master).entries (missed master));
-    idle = λ q counts idles.
-        none_touches range (drop (v.written q).applied (v.written q).entries) (drop_missed range (v.written q).applied (v.written q).entries (missed q));
-    items = λ q lives has. subst (λ (l : List Entry). IsTableOf range l (v.records q)) (sym truth_is) (table_new q);
-    target = tt;
-    handed_on = tt;
-    named_items = tt;
-    rebuilt = tt;
-    marks = λ q. no_mark (MarkFits row q (now.handovers q tablet) (v.live q) (v.written q)) q;
-    pieces = λ q. no_mark (HasOwnRange range (v.written q).entries) q;
-    says = λ n m there.
+    order = subst (λ (l : List Entry). AreAbove (items_of (truths v row)) (items_of l)) (sym rest_none) tt;
+    calls = record {
+      reached = none_reached (λ p. IsReached (told (of_key p.call.table p.call.key (truths v row))) p);
+      recorded = subst (λ (l : List Entry). All (IsKnown v.base v.journal) (told l)) (sym truth_none) (All-nil (IsKnown v.base v.journal));
+      moving = tt;
+      answering = λ q counts says. none_reached (IsReached (ends_of (v.completions q tablet)));
+      granted = tt;
+      sent = λ n m there. rw (none_for_owned tablet 1 range master 0 now.handovers m.body) tt;
+    };
+    counters = record {
+      low = grind (arith, map_after, base_map, truth_none, last_version, untouched, v.base, v.journal);
+      moving = tt;
+      counted = λ q counts.
+          by_post (λ q post h. speaks post h 1 ≡ true → IsNextOf v row h.counter) q (λ says. rw (truth_none, rest_none) (omega arith))
+          (λ away says. absurd (false≢true (sym (silent (v.handovers q tablet).role (absent_before q)) ∙ says)));
+      granted = tt;
+      sent = λ n m there. rw (none_for_owned tablet 1 range master 0 now.handovers m.body) tt;
+    };
+    rest = record {
+      goes_on = grind (arith, truth_none, rest_none, base_map, append-nil, live_after, untouched, v.base, v.journal, sound.truth.legal);
+      done = tt;
+      unnamed = joined_none range (drop _ (v.written master).entries) (drop_missed range _ (v.written master).entries (missed master));
+      idle = λ q counts idles.
+          none_touches range (drop (v.written q).applied (v.written q).entries) (drop_missed range (v.written q).applied (v.written q).entries (missed q));
+    };
+    tables = λ q lives has. subst (λ (l : List Entry). IsTableOf range l (v.records q)) (sym truth_is) (table_new q);
+    receives = record { target = tt; handed_on = tt; named = tt };
+    rebuilds = record {
+      rebuilt = tt;
+      marks = λ q. no_mark (MarkFits row q (now.handovers q tablet) (v.live q) (v.written q)) q;
+      pieces = λ q. no_mark (HasOwnRange range (v.written q).entries) q;
+    };
+    messages = λ n m there.
         says_new v tablet range master unsaid m.from m.to m.body (sound.cover.sent n m there)
         (both_some (range_in m.body) (may.orders n m there) (sound.cover.ordered n m there))
-        (λ x has. (row_in v sound x has).says n m there);
+        (λ x has. (row_in v sound x has).messages n m there);
   }
 
   -- a call waits for its row still

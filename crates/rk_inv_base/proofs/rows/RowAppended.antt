@@ -57,12 +57,12 @@ pub rest_fits : (v now : View) (x : Row) → SoundRow v x → rests now x ≡ re
 rest_fits v now x was same counters =
     let Floor : List Entry → Handed → Type 0 = λ list h. IsNext (truths v x ++ list) h.floor in
     record {
-      above = subst (λ (list : List Entry). AreAbove (items_of (truths v x)) (items_of list)) (sym same) was.above;
+      above = subst (λ (list : List Entry). AreAbove (items_of (truths v x)) (items_of list)) (sym same) was.order;
       counted = λ q counts says.
-          rw same (subst (IsNextOf v x) (sym (counters q)) (was.counted q counts says));
-      floor_granted = rw same was.floor_granted;
-      floor_sent = rw same was.floor_sent;
-      goes_on = rw same was.goes_on;
+          rw same (subst (IsNextOf v x) (sym (counters q)) (was.counters.counted q counts says));
+      floor_granted = rw same was.counters.granted;
+      floor_sent = rw same was.counters.sent;
+      goes_on = rw same was.rest.goes_on;
       tells = λ end. subst (λ (list : List Entry). Contains (told list) end) (sym same);
     }
 
@@ -161,8 +161,8 @@ module _ (v : View) (master tablet : ℕ) (entry : Entry) (calls : ℕ → Numbe
     rest =
         rest_fits v now x was (rest_at v master entry sound x beside.uncounted)
         (λ q. ap (λ (h : Handover). h.counter) (handover_apart q x.tablet (λ _ its. apart its)));
-    target = members_beside x apart beside (lineage_of x.phase) was.placed was.target;
-    named = names_grown x (lineage_of x.phase) was.placed (names_beside x.range entry beside.untouched) was.named_items;
+    target = members_beside x apart beside (lineage_of x.phase) was.rows.placed was.receives.target;
+    named = names_grown x (lineage_of x.phase) was.rows.placed (names_beside x.range entry beside.untouched) was.receives.named;
   }
 
   -- ---- any row
@@ -212,7 +212,7 @@ module _ (v : View) (master tablet : ℕ) (entry : Entry) (calls : ℕ → Numbe
     idle : (q : ℕ) → CountsFor now x q → is_idle (now.handovers q x.tablet).role ≡ true → list_any (touches x.range) (drop (now.written q).applied (now.written q).entries) ≡ false
     idle q counts idles =
         let idled : is_idle (v.handovers q x.tablet).role ≡ true = sym (each_stays q x.tablet).idle ∙ idles in
-        let none = was.idle q (counts_before q counts) idled in
+        let none = was.rest.idle q (counts_before q counts) idled in
         of_written v master entry sound (λ (w : Written). list_any (touches x.range) (drop w.applied w.entries) ≡ false) q
         (λ at.
         behind_none (touches x.range) (v.written q).entries (v.written q).applied entry none
@@ -266,7 +266,7 @@ module _ (v : View) (master tablet : ℕ) (entry : Entry) (calls : ℕ → Numbe
         (λ q away end needed.
         needed_grown v.written master entry (marked v master entry sound) x lineage q
         (λ at.
-        former_alone v x was.fitting lineage to q is (ap v.live at ∙ lives) away (needed_member x now.written lineage q end needed))
+        former_alone v x was.roles.fitting lineage to q is (ap v.live at ∙ lives) away (needed_member x now.written lineage q end needed))
         end needed)
         (subst
         (λ (known : ℕ → Known). IsRebuilder x lineage to (truths v x) (member_material now.written x.range (member_at to (own_place h.role)))
@@ -310,7 +310,7 @@ module _ (v : View) (master tablet : ℕ) (entry : Entry) (calls : ℕ → Numbe
         (λ mark fits its.
         mark_same x q (v.handovers q x.tablet) (now.handovers q x.tablet) (v.live q) (v.written q) (now.written q) mark
         (alike q x.tablet).same_term (each_stays q x.tablet).merged (last_stays q mark (fits its)) (fits its))
-        (v.written q).marks (was.marks q) in
+        (v.written q).marks (was.rebuilds.marks q) in
         of_written v master entry sound (λ (w : Written). All Fits w.marks) q (λ at. each) (λ apart. each)
 
     abbrev ArePieces : Written → Type 0
@@ -322,8 +322,8 @@ module _ (v : View) (master tablet : ℕ) (entry : Entry) (calls : ℕ → Numbe
         (λ at k d inside its.
         let mark : Mark = slice_index_or (v.written q).marks k d in
         rw (piece_push mark.first mark.past (v.written q).entries (entry ∷ []) (marked v master entry sound q k d inside))
-        (was.pieces q k d inside its))
-        (λ apart. was.pieces q)
+        (was.rebuilds.pieces q k d inside its))
+        (λ apart. was.rebuilds.pieces q)
 
     -- ---- the whole
 
@@ -331,24 +331,24 @@ module _ (v : View) (master tablet : ℕ) (entry : Entry) (calls : ℕ → Numbe
     row_appended =
         assumption (
           All-weaker (IsPlaced v.written) (IsPlaced now.written)
-              (λ member place. omega (arith, place, longer v master entry sound member.master)) (lineage_of x.phase) was.placed,
+              (λ member place. omega (arith, place, longer v master entry sound member.master)) (lineage_of x.phase) was.rows.placed,
           λ (q : ℕ) (counts : CountsFor now x q).
               role_looks x q (v.handovers q x.tablet) (now.handovers q x.tablet) (v.written q).applied (now.written q).applied
-              (each_stays q x.tablet).looks (applied_same v master entry sound q) (was.fitting q (counts_before q counts)),
+              (each_stays q x.tablet).looks (applied_same v master entry sound q) (was.roles.fitting q (counts_before q counts)),
           λ (q : ℕ) (counts : CountsFor now x q) (member : is_member (lineage_of x.phase) q ≡ true).
-              (each_stays q x.tablet).looks.range ∙ was.ranged q (counts_before q counts) member,
+              (each_stays q x.tablet).looks.range ∙ was.roles.ranged q (counts_before q counts) member,
           terms_look x.phase (λ q. (v.handovers q x.tablet).term) (λ q. (now.handovers q x.tablet).term) x.term
-              (λ q. (alike q x.tablet).same_term) was.at_term,
+              (λ q. (alike q x.tablet).same_term) was.roles.at_term,
           of_truth (λ list. IsTruth v.base x.range list v.journal) was.truth,
           of_truth (λ list. AreAbove (items_of list) (items_of (rests now x))) grows.rest.above,
-          of_truth (TellAll x.range v.journal) was.reached,
-          of_truth (λ list. All (IsKnown v.base v.journal) (told list)) was.recorded,
-          of_target_truth (TellAll x.range v.journal) was.moving,
-          λ (q : ℕ) (counts : CountsFor now x q) (says : SpeaksFor now x q). was.answering q (counts_before q counts) (says_before q says),
-          of_granted (λ h. AreHandedOver v.base x.range v.journal h.ends) was.ends_granted,
-          of_sent (λ h. AreHandedOver v.base x.range v.journal h.ends) was.ends_sent,
-          of_truth (AreAboveMap x.range (map_after (base_map v.base) v.journal)) was.low,
-          of_target_truth (AreAboveMap x.range (map_after (base_map v.base) v.journal)) was.low_moving,
+          of_truth (TellAll x.range v.journal) was.calls.reached,
+          of_truth (λ list. All (IsKnown v.base v.journal) (told list)) was.calls.recorded,
+          of_target_truth (TellAll x.range v.journal) was.calls.moving,
+          λ (q : ℕ) (counts : CountsFor now x q) (says : SpeaksFor now x q). was.calls.answering q (counts_before q counts) (says_before q says),
+          of_granted (λ h. AreHandedOver v.base x.range v.journal h.ends) was.calls.granted,
+          of_sent (λ h. AreHandedOver v.base x.range v.journal h.ends) was.calls.sent,
+          of_truth (AreAboveMap x.range (map_after (base_map v.base) v.journal)) was.counters.low,
+          of_target_truth (AreAboveMap x.range (map_after (base_map v.base) v.journal)) was.counters.moving,
           λ (q : ℕ) (counts : CountsFor now x q) (says : SpeaksFor now x q).
               of_truth (λ list. IsNext (list ++ rests now x) (now.handovers q x.tablet).counter)
               (grows.rest.counted q (counts_before q counts) (says_before q says)),
@@ -357,22 +357,22 @@ module _ (v : View) (master tablet : ℕ) (entry : Entry) (calls : ℕ → Numbe
           of_truth (λ list. EachIn (λ n m. IfSome (handed_by x now.handovers m.body) (λ h. IsNext (list ++ rests now x) h.floor)) v.wire)
               (of_sent (λ h. IsNext (truths v x ++ rests now x) h.floor) grows.rest.floor_sent),
           of_truth (λ list. IsRest v.base x.range list (rests now x) v.journal v.asked) grows.rest.goes_on,
-          done (lineage_of x.phase) grows.first was.done,
-          unnamed (lineage_of x.phase) refl was.unnamed,
+          done (lineage_of x.phase) grows.first was.rest.done,
+          unnamed (lineage_of x.phase) refl was.rest.unnamed,
           idle,
           λ (q : ℕ) (alive : v.live q ≡ true) (has : has_all_items (post_of x.phase q) (now.handovers q x.tablet) x.term ≡ true).
               items q
-              (was.items q alive
+              (was.tables q alive
               (sym (all_items_same (post_of x.phase q) (now.handovers q x.tablet) (v.handovers q x.tablet) x.term (alike q x.tablet).same_term) ∙ has)),
           grows.target,
-          handed_on (lineage_of x.phase) refl was.handed_on,
+          handed_on (lineage_of x.phase) refl was.receives.handed_on,
           grows.named,
           of_truth
               (λ list. RowIsRebuilt x x.phase list now.logs now.written v.stored now.handovers v.completions v.gathers v.merged v.records v.live)
-              (rebuilt x.phase refl was.rebuilt),
+              (rebuilt x.phase refl was.rebuilds.rebuilt),
           marks,
           pieces,
           λ (n : ℕ) (m : Message) (there : get v.wire n ≡ Some m).
               says_of_looks v now.logs now.written now.handovers looks (known_same v master entry sound) (needs_no_more v master entry sound lives) x
-              m.from m.to m.body (was.says n m there),
+              m.from m.to m.body (was.messages n m there),
         )

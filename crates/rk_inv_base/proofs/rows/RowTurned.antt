@@ -62,47 +62,61 @@ module _ (v : View) (row : Row) (term : ℕ) (phase : Phase) (sound : SoundView 
 
   holds : SoundRow now new
   holds = record {
-    named = may.named;
-    begun = let begun = was.begun in omega (arith, begun, grows);
-    formed = may.formed;
-    placed = over (All (IsPlaced v.written)) was.placed;
-    sent = λ n m there. sent_fits m.body (was.sent n m there);
-    fitting = λ q counting. (may.posts q counting).fits;
-    ranged = λ q counting inside. was.ranged q (counts q counting) (over (λ l. is_member l q ≡ true → is_member (lineage_of row.phase) q ≡ true) (λ is. is) inside);
-    at_term = may.at_term;
+    nodes = may.named;
+    rows = record {
+      begun = let begun = was.rows.begun in omega (arith, begun, grows);
+      formed = may.formed;
+      placed = over (All (IsPlaced v.written)) was.rows.placed;
+    };
+    terms = λ n m there. sent_fits m.body (was.terms n m there);
+    roles = record {
+      fitting = λ q counting. (may.posts q counting).fits;
+      ranged = λ q counting inside. was.roles.ranged q (counts q counting) (over (λ l. is_member l q ≡ true → is_member (lineage_of row.phase) q ≡ true) (λ is. is) inside);
+      at_term = may.at_term;
+    };
     truth = over (λ l. IsTruth v.base row.range (truth_with l) v.journal) was.truth;
-    above = over (λ l. AreAbove (items_of (truth_with l)) (items_of (rest_with l))) was.above;
-    reached = over (λ l. TellAll row.range v.journal (truth_with l)) was.reached;
-    recorded = over (λ l. All (IsKnown v.base v.journal) (told (truth_with l))) was.recorded;
-    moving = rw may.unmoved tt;
-    answering = λ q counting says. was.answering q (counts q counting) ((may.posts q counting).speaks says);
-    ends_granted = rw (for_grant v row term phase may) was.ends_granted;
-    ends_sent = λ n m there.
-        hands v row term phase may (λ h. AreHandedOver v.base row.range v.journal h.ends) m.body (was.sent n m there)
-        (was.ends_sent n m there);
-    low = over (λ l. AreAboveMap row.range (map_after (base_map v.base) v.journal) (truth_with l)) was.low;
-    low_moving = rw may.unmoved tt;
-    counted = λ q counting says.
-        over (λ l. IsNextBehind l (v.handovers q row.tablet).counter) (was.counted q (counts q counting) ((may.posts q counting).speaks says));
-    floor_granted = rw (for_grant v row term phase may) (next_over (handed_for_grant row v.handovers v.handed) was.floor_granted);
-    floor_sent = λ n m there.
-        hands v row term phase may (λ h. IsNextBehind (lineage_of phase) h.floor) m.body (was.sent n m there)
-        (next_over (handed_by row v.handovers m.body) (was.floor_sent n m there));
-    goes_on = over (λ l. IsRest v.base row.range (truth_with l) (rest_with l) v.journal v.asked) was.goes_on;
-    done = over (FirstIsDone v.written row.range) was.done;
-    unnamed = over (OnlyIsUnnamed v.written row.range) was.unnamed;
-    idle = λ q counting. was.idle q (counts q counting);
-    items = λ q lives has.
+    order = over (λ l. AreAbove (items_of (truth_with l)) (items_of (rest_with l))) was.order;
+    calls = record {
+      reached = over (λ l. TellAll row.range v.journal (truth_with l)) was.calls.reached;
+      recorded = over (λ l. All (IsKnown v.base v.journal) (told (truth_with l))) was.calls.recorded;
+      moving = rw may.unmoved tt;
+      answering = λ q counting says. was.calls.answering q (counts q counting) ((may.posts q counting).speaks says);
+      granted = rw (for_grant v row term phase may) was.calls.granted;
+      sent = λ n m there.
+          hands v row term phase may (λ h. AreHandedOver v.base row.range v.journal h.ends) m.body (was.terms n m there)
+          (was.calls.sent n m there);
+    };
+    counters = record {
+      low = over (λ l. AreAboveMap row.range (map_after (base_map v.base) v.journal) (truth_with l)) was.counters.low;
+      moving = rw may.unmoved tt;
+      counted = λ q counting says.
+          over (λ l. IsNextBehind l (v.handovers q row.tablet).counter) (was.counters.counted q (counts q counting) ((may.posts q counting).speaks says));
+      granted = rw (for_grant v row term phase may) (next_over (handed_for_grant row v.handovers v.handed) was.counters.granted);
+      sent = λ n m there.
+          hands v row term phase may (λ h. IsNextBehind (lineage_of phase) h.floor) m.body (was.terms n m there)
+          (next_over (handed_by row v.handovers m.body) (was.counters.sent n m there));
+    };
+    rest = record {
+      goes_on = over (λ l. IsRest v.base row.range (truth_with l) (rest_with l) v.journal v.asked) was.rest.goes_on;
+      done = over (FirstIsDone v.written row.range) was.rest.done;
+      unnamed = over (OnlyIsUnnamed v.written row.range) was.rest.unnamed;
+      idle = λ q counting. was.rest.idle q (counts q counting);
+    };
+    tables = λ q lives has.
         over (λ l. IfSome (first_of l) (λ first. IsTableOf row.range (member_truth v.written row.range first) (v.records q)))
-        (was.items q lives ((may.posts q (inl lives)).full has));
-    target = over (MembersFit new v.written v.handovers v.pullings v.records v.handed) (members_fit (lineage_of row.phase) was.target);
-    handed_on = over (HandedFits new v.handovers v.completions v.handed) (handed_fits (lineage_of row.phase) was.handed_on);
-    named_items = over (NamedFit v.written row.range) was.named_items;
-    rebuilt =
-        grind (arith, over, v.logs, v.written, v.stored, v.handovers, v.completions, v.gathers, v.merged, v.records, v.live, may.rebuilt);
-    marks = may.marks;
-    pieces = was.pieces;
-    says = λ n m there. says v row term phase may m.from m.to m.body (was.sent n m there) (was.says n m there);
+        (was.tables q lives ((may.posts q (inl lives)).full has));
+    receives = record {
+      target = over (MembersFit new v.written v.handovers v.pullings v.records v.handed) (members_fit (lineage_of row.phase) was.receives.target);
+      handed_on = over (HandedFits new v.handovers v.completions v.handed) (handed_fits (lineage_of row.phase) was.receives.handed_on);
+      named = over (NamedFit v.written row.range) was.receives.named;
+    };
+    rebuilds = record {
+      rebuilt =
+          grind (arith, over, v.logs, v.written, v.stored, v.handovers, v.completions, v.gathers, v.merged, v.records, v.live, may.rebuilt);
+      marks = may.marks;
+      pieces = was.rebuilds.pieces;
+    };
+    messages = λ n m there. says v row term phase may m.from m.to m.body (was.terms n m there) (was.messages n m there);
   }
 
   pub view_turned : SoundView now

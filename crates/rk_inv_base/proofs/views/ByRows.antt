@@ -54,39 +54,19 @@ pub record SoundBeside (v : View) : Type 0 where
 -- each row of a sound view
 pub each_row : (v : View) → SoundView v → All (SoundRow v) v.rows
 each_row v sound k d within = record {
-  named = λ q. sound.nodes.named q k d within;
-  begun = sound.rows.begun k d within;
-  formed = sound.rows.formed k d within;
-  placed = sound.rows.placed k d within;
-  sent = λ n m there. sound.terms.sent n m there k d within;
-  fitting = λ q. sound.roles.fitting q k d within;
-  ranged = λ q. sound.roles.ranged q k d within;
-  at_term = sound.roles.at_term k d within;
+  nodes = λ q. sound.nodes.named q k d within;
+  rows = search (sound.rows.begun, sound.rows.formed, sound.rows.placed);
+  terms = λ n m there. sound.terms.sent n m there k d within;
+  roles = search (sound.roles.fitting, sound.roles.ranged, sound.roles.at_term);
   truth = sound.truth.true k d within;
-  above = sound.order.above k d within;
-  reached = sound.calls.reached k d within;
-  recorded = sound.calls.recorded k d within;
-  moving = sound.calls.moving k d within;
-  answering = λ q. sound.calls.answering q k d within;
-  ends_granted = sound.calls.handed_on k d within;
-  ends_sent = λ n m there. sound.calls.sent n m there k d within;
-  low = sound.counters.low k d within;
-  low_moving = sound.counters.moving k d within;
-  counted = λ q. sound.counters.counted q k d within;
-  floor_granted = sound.counters.handed_on k d within;
-  floor_sent = λ n m there. sound.counters.sent n m there k d within;
-  goes_on = sound.rest.goes_on k d within;
-  done = sound.rest.done k d within;
-  unnamed = sound.rest.unnamed k d within;
-  idle = λ q. sound.rest.idle q k d within;
-  items = λ q lives. sound.records.items q lives k d within;
-  target = sound.receives.targets k d within;
-  handed_on = sound.receives.handed_on k d within;
-  named_items = sound.receives.named k d within;
-  rebuilt = sound.rebuilds.rebuilt k d within;
-  marks = λ q. sound.rebuilds.marks q k d within;
-  pieces = λ q. sound.rebuilds.pieces q k d within;
-  says = λ n m there. sound.messages.of_rows n m there k d within;
+  order = sound.order.above k d within;
+  calls = let of = sound.calls in search (of.reached, of.recorded, of.moving, of.answering, of.handed_on, of.sent);
+  counters = let of = sound.counters in search (of.low, of.moving, of.counted, of.handed_on, of.sent);
+  rest = search (sound.rest.goes_on, sound.rest.done, sound.rest.unnamed, sound.rest.idle);
+  tables = λ q lives. sound.records.items q lives k d within;
+  receives = search (sound.receives.targets, sound.receives.handed_on, sound.receives.named);
+  rebuilds = search (sound.rebuilds.rebuilt, sound.rebuilds.marks, sound.rebuilds.pieces);
+  messages = λ n m there. sound.messages.of_rows n m there k d within;
 }
 
 -- and any row that is in it
@@ -108,39 +88,39 @@ of_rows {v} {P} gives each = All-weaker (SoundRow v) P gives v.rows each
 pub view_by_rows : (v : View) → SoundBeside v → All (SoundRow v) v.rows → SoundView v
 view_by_rows v beside each =
     assumption (
-      λ (q : ℕ). of_rows (λ row was. was.named q) each,
-      of_rows (λ row was. was.begun) each,
-      of_rows (λ row was. was.formed) each,
-      of_rows (λ row was. was.placed) each,
-      λ (n : ℕ) (m : Message) (there : get v.wire n ≡ Some m). of_rows (λ row was. was.sent n m there) each,
-      λ (q : ℕ). of_rows (λ row was. was.fitting q) each,
-      λ (q : ℕ). of_rows (λ row was. was.ranged q) each,
-      of_rows (λ row was. was.at_term) each,
+      λ (q : ℕ). of_rows (λ row was. was.nodes q) each,
+      of_rows (λ row was. was.rows.begun) each,
+      of_rows (λ row was. was.rows.formed) each,
+      of_rows (λ row was. was.rows.placed) each,
+      λ (n : ℕ) (m : Message) (there : get v.wire n ≡ Some m). of_rows (λ row was. was.terms n m there) each,
+      λ (q : ℕ). of_rows (λ row was. was.roles.fitting q) each,
+      λ (q : ℕ). of_rows (λ row was. was.roles.ranged q) each,
+      of_rows (λ row was. was.roles.at_term) each,
       of_rows (λ row was. was.truth) each,
-      of_rows (λ row was. was.above) each,
-      of_rows (λ row was. was.reached) each,
-      of_rows (λ row was. was.recorded) each,
-      of_rows (λ row was. was.moving) each,
-      λ (q : ℕ). of_rows (λ row was. was.answering q) each,
-      of_rows (λ row was. was.ends_granted) each,
-      λ (n : ℕ) (m : Message) (there : get v.wire n ≡ Some m). of_rows (λ row was. was.ends_sent n m there) each,
-      of_rows (λ row was. was.low) each,
-      of_rows (λ row was. was.low_moving) each,
-      λ (q : ℕ). of_rows (λ row was. was.counted q) each,
-      of_rows (λ row was. was.floor_granted) each,
-      λ (n : ℕ) (m : Message) (there : get v.wire n ≡ Some m). of_rows (λ row was. was.floor_sent n m there) each,
-      of_rows (λ row was. was.goes_on) each,
-      of_rows (λ row was. was.done) each,
-      of_rows (λ row was. was.unnamed) each,
-      λ (q : ℕ). of_rows (λ row was. was.idle q) each,
-      λ (q : ℕ) (lives : v.live q ≡ true). of_rows (λ row was. was.items q lives) each,
-      of_rows (λ row was. was.target) each,
-      of_rows (λ row was. was.handed_on) each,
-      of_rows (λ row was. was.named_items) each,
-      of_rows (λ row was. was.rebuilt) each,
-      λ (q : ℕ). of_rows (λ row was. was.marks q) each,
-      λ (q : ℕ). of_rows (λ row was. was.pieces q) each,
-      λ (n : ℕ) (m : Message) (there : get v.wire n ≡ Some m). of_rows (λ row was. was.says n m there) each,
+      of_rows (λ row was. was.order) each,
+      of_rows (λ row was. was.calls.reached) each,
+      of_rows (λ row was. was.calls.recorded) each,
+      of_rows (λ row was. was.calls.moving) each,
+      λ (q : ℕ). of_rows (λ row was. was.calls.answering q) each,
+      of_rows (λ row was. was.calls.granted) each,
+      λ (n : ℕ) (m : Message) (there : get v.wire n ≡ Some m). of_rows (λ row was. was.calls.sent n m there) each,
+      of_rows (λ row was. was.counters.low) each,
+      of_rows (λ row was. was.counters.moving) each,
+      λ (q : ℕ). of_rows (λ row was. was.counters.counted q) each,
+      of_rows (λ row was. was.counters.granted) each,
+      λ (n : ℕ) (m : Message) (there : get v.wire n ≡ Some m). of_rows (λ row was. was.counters.sent n m there) each,
+      of_rows (λ row was. was.rest.goes_on) each,
+      of_rows (λ row was. was.rest.done) each,
+      of_rows (λ row was. was.rest.unnamed) each,
+      λ (q : ℕ). of_rows (λ row was. was.rest.idle q) each,
+      λ (q : ℕ) (lives : v.live q ≡ true). of_rows (λ row was. was.tables q lives) each,
+      of_rows (λ row was. was.receives.target) each,
+      of_rows (λ row was. was.receives.handed_on) each,
+      of_rows (λ row was. was.receives.named) each,
+      of_rows (λ row was. was.rebuilds.rebuilt) each,
+      λ (q : ℕ). of_rows (λ row was. was.rebuilds.marks q) each,
+      λ (q : ℕ). of_rows (λ row was. was.rebuilds.pieces q) each,
+      λ (n : ℕ) (m : Message) (there : get v.wire n ≡ Some m). of_rows (λ row was. was.messages n m there) each,
     )
 
 -- no message hands over for a row that is owned

@@ -38,7 +38,7 @@ module _ (v : View) (row : Row) (master : ℕ) (new : Tablet) (tablets : ℕ →
   apart_before : (q a b : ℕ) → AreApart q a (v.handovers q a) b (now.handovers q b)
   apart_before q a b =
       each (λ q b t. AreApart q a (v.handovers q a) b t.handover) q b
-      (λ other there b_there. apart_either new.handover.range (v.handovers master a).range (may.tablet.apart a (λ same. other (sym same)) b_there there))
+      (λ other there b_there. apart_either new.handover.range (v.handovers master a).range (may.tablet.terms.apart a (λ same. other (sym same)) b_there there))
       (sound.terms.apart q a b)
 
   apart : (q a b : ℕ) → AreApart q a (now.handovers q a) b (now.handovers q b)
@@ -46,7 +46,7 @@ module _ (v : View) (row : Row) (master : ℕ) (new : Tablet) (tablets : ℕ →
       each (λ q a t. AreApart q a t.handover b (now.handovers q b)) q a
       (λ other.
       subst (λ (t : Tablet). is_absent new.handover.role ≡ false → is_absent t.handover.role ≡ false → meets new.handover.range t.handover.range ≡ false)
-      (sym (may.turned.apart master b (λ _ its. other (sym its)))) (may.tablet.apart b other))
+      (sym (may.turned.apart master b (λ _ its. other (sym its)))) (may.tablet.terms.apart b other))
       (apart_before q a b)
 
   stages : (q : ℕ) (x : Row) → Contains v.rows x → list_any (touches x.range) (drop (v.written q).applied (v.written q).entries) ≡ true → may_have_staged (v.handovers q x.tablet).role ≡ true → may_have_staged (now.handovers q x.tablet).role ≡ true
@@ -72,26 +72,26 @@ module _ (v : View) (row : Row) (master : ℕ) (new : Tablet) (tablets : ℕ →
       let its = may.tablet in
       let cover : CoverOf now = assumption (
         sound.cover,
-        λ (q r : ℕ). each (λ q r t. row_of v.rows r ≡ None → t.handover.term ≡ 0) q r its.unknown (sound.cover.unknown q r),
-        λ (q r : ℕ). each (λ q r t. 1 ≤ t.handover.term → IsWithinRows v.rows t.handover.range) q r its.ranges (sound.cover.ranges q r),
+        λ (q r : ℕ). each (λ q r t. row_of v.rows r ≡ None → t.handover.term ≡ 0) q r its.cover.unknown (sound.cover.unknown q r),
+        λ (q r : ℕ). each (λ q r t. 1 ≤ t.handover.term → IsWithinRows v.rows t.handover.range) q r its.cover.ranges (sound.cover.ranges q r),
       ) in
       assumption (
         sound,
         cover,
         apart,
-        λ (q r : ℕ). each (λ q r t. All (λ x. HandoverFits x r t.handover) v.rows) q r its.kept (sound.terms.kept q r),
-        λ (q r : ℕ). each (λ q r t. is_absent t.handover.role ≡ false → 1 ≤ t.handover.term) q r its.begun (sound.terms.begun q r),
+        λ (q r : ℕ). each (λ q r t. All (λ x. HandoverFits x r t.handover) v.rows) q r its.terms.kept (sound.terms.kept q r),
+        λ (q r : ℕ). each (λ q r t. is_absent t.handover.role ≡ false → 1 ≤ t.handover.term) q r its.terms.begun (sound.terms.begun q r),
         λ (q r : ℕ).
-            each (λ q r t. v.live q ≡ true → is_absent t.handover.role ≡ false → is_some (row_of v.rows r) ≡ true) q r its.has_row
+            each (λ q r t. v.live q ≡ true → is_absent t.handover.role ≡ false → is_some (row_of v.rows r) ≡ true) q r its.roles
             (sound.roles.known q r),
         λ (q r : ℕ).
             each
             (λ q r t. v.live q ≡ true
             → All (λ end. IsKnown v.base v.journal end ⊎ IsStagedEnd v.rows (rests v) q r t.handover.term end) (ends_of t.completions))
-            q r its.known (sound.calls.known q r),
+            q r its.calls (sound.calls.known q r),
         λ (q : ℕ) (lives : v.live q ≡ true) (place : ℕ) (call : Call) (there : get (v.calls q) place ≡ Some call).
             waits q place call (sound.rest.waiting q lives place call there),
-        λ (q r : ℕ). each (λ q r t. IsBareOf t.handover (v.written q) (v.records q)) q r its.bare (sound.receives.bare q r),
+        λ (q r : ℕ). each (λ q r t. IsBareOf t.handover (v.written q) (v.records q)) q r its.receives (sound.receives.bare q r),
       )
 
   -- of another row each master has what it had

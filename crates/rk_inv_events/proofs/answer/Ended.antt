@@ -65,7 +65,7 @@ module _ (v : View) (sound : SoundView v) (row : Row) (master : ℕ) (call : Cal
   outcome_is : (placed : Placed) → Contains v.journal placed → placed.call ≡ call → placed.outcome ≡ outcome_of end
   outcome_is placed stands is =
       let reach : ReachAll row.range v.journal (ends_of (v.completions master row.tablet)) =
-      (row_in v sound row has).answering master (inl lives)
+      (row_in v sound row has).calls.answering master (inl lives)
       (speaks_serving (post_of row.phase master) (v.handovers master row.tablet) row.term serves) in
       let reached : IsReached (ends_of (v.completions master row.tablet)) placed =
       All-contains

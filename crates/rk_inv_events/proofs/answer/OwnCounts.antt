@@ -31,7 +31,7 @@ module _ (v : View) (row : Row) (master : ℕ) (sound : SoundView v) (has : Cont
       let number : other.tablet ≡ mark.tablet = number_of v.rows mark.tablet other is in
       let own : HasOwnRange other.range w.entries mark =
       All-contains (λ m. m.tablet ≡ other.tablet → HasOwnRange other.range w.entries m) w.marks mark
-      ((row_in v sound other stands).pieces master) marked (sym number) in
+      ((row_in v sound other stands).rebuilds.pieces master) marked (sym number) in
       of_other other held stands (λ same. unmarked_here mark marked (same ∙ number))
       (All-contains (IsOfRange other.range) (take (mark.past - mark.first) (drop mark.first w.entries)) (entries.Held held) own inside) its
 

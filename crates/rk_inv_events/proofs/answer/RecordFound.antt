@@ -35,7 +35,7 @@ module _ (v : View) (sound : SoundView v) (row : Row) (master : ℕ) (has : Cont
       let truth : List Entry = member_truth v.written row.range has_all.only in
       let its : IsTableOf row.range truth (v.records master) =
       rw has_all.lineage_is at
-      ((row_in v sound row has).items master lives has_all.all) in
+      ((row_in v sound row has).tables master lives has_all.all) in
       let truth_is : truths v row ≡ truth = ap (lineage_truth v.base v.written row.range) has_all.lineage_is ∙ append-nil truth in
       ap record_of
       (table_found row.range truth (v.records master) table key (sound.records.ordered master) (truth_in v.written row.range has_all.only)
@@ -64,7 +64,7 @@ module _ (v : View) (sound : SoundView v) (row : Row) (master : ℕ) (has : Cont
 
     target : IsTargetIn v.written row granted.first (record { master = master; from = granted.last.from }) (v.handovers master row.tablet) (v.pullings master row.tablet) (get v.handed row.tablet) (v.records master)
     target = rw granted.here at
-        (in_lineage (MembersFit row v.written v.handovers v.pullings v.records v.handed) (row_in v sound row has).target
+        (in_lineage (MembersFit row v.written v.handovers v.pullings v.records v.handed) (row_in v sound row has).receives.target
         (ap (λ (n : ℕ). is_granted (v.handovers n row.tablet).role) granted.here ∙ granted.granted))
 
     truth_is : truths v row ≡ first_truth ++ mine
@@ -88,7 +88,7 @@ module _ (v : View) (sound : SoundView v) (row : Row) (master : ℕ) (has : Cont
 
     -- what the master names is the first one's
     named_first : (x : Held) → Contains (named_items row.range granted.last.from w) x → Contains (items_of first_truth) x
-    named_first x stands = in_lineage (NamedFit v.written row.range) (row_in v sound row has).named_items x (rw granted.here stands)
+    named_first x stands = in_lineage (NamedFit v.written row.range) (row_in v sound row has).receives.named x (rw granted.here stands)
 
     mine_from : (x : Held) → Contains (items_of mine) x → Contains (own (applied_entries w)) x ⊎ Contains (items_of first_truth) x
     mine_from x stands =

@@ -152,7 +152,7 @@ module _ (v : View) (row : Row) (sound : SoundView v) (stands : Contains v.rows 
 
   -- both keep the row's term
   at_term : ((v.handovers source row.tablet).term ≡ row.term) × ((v.handovers target row.tablet).term ≡ row.term)
-  at_term = rw is at own.at_term
+  at_term = rw is at own.roles.at_term
 
   -- so what is noted is what the source has
   noted : get v.handed row.tablet ≡ Some handed

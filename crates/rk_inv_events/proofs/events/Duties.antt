@@ -74,7 +74,7 @@ module _ (v : View) (sound : SoundView v) (master number : ℕ) (lives : v.live 
 
     -- what it asks for goes to its source
     asks : (row : Row) → Contains v.rows row → AskAgrees row v.handovers (lineage_of row.phase) master source tenure
-    asks row stands = by_lineage (lineage_of row.phase) (row_in v sound row stands).target
+    asks row stands = by_lineage (lineage_of row.phase) (row_in v sound row stands).receives.target
       where
         by_lineage : (lineage : List Member) → MembersFit row v.written v.handovers v.pullings v.records v.handed lineage
             → AskAgrees row v.handovers lineage master source tenure

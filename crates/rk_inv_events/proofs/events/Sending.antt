@@ -23,15 +23,15 @@ module _ (v : View) (from to : Node) (body : Body) where
       → MaySend v (record { from = from; to = to; body = body })
   may_hand hands within each says = record {
     terms = all_by (λ row. SentFits row body) v.rows (λ row at. (each row at).0);
-    logs_say = says.0;
-    floors = all_by (λ (row : Row). IfSome (handed_by row v.handovers body) (λ h. IsNext (truths v row ++ rests v row) h.floor)) v.rows
+    logs = says.0;
+    counters = all_by (λ (row : Row). IfSome (handed_by row v.handovers body) (λ h. IsNext (truths v row ++ rests v row) h.floor)) v.rows
         (λ row at. IfSome_then (handed_by row v.handovers body) (hands row at) (λ h both. both.0));
-    ends = all_by (λ (row : Row). IfSome (handed_by row v.handovers body) (λ h. AreHandedOver v.base row.range v.journal h.ends)) v.rows
+    calls = all_by (λ (row : Row). IfSome (handed_by row v.handovers body) (λ h. AreHandedOver v.base row.range v.journal h.ends)) v.rows
         (λ row at. IfSome_then (handed_by row v.handovers body) (hands row at) (λ h both. both.1));
-    within_rows = within;
-    rows_say = all_by (λ row. SaysIn v row from to body) v.rows (λ row at. (each row at).1);
-    others_say = says.1;
-    request_says = says.2;
+    cover = within;
+    messages = all_by (λ row. SaysIn v row from to body) v.rows (λ row at. (each row at).1);
+    replies = says.1;
+    asked = says.2;
   }
 
   -- a message that hands nothing over

@@ -262,7 +262,7 @@ module _ (w : World) (number backup reader : ℕ) (read : ReadSegment) (segments
   may_send_copy = may_send (view w) (nodes.Backup backup) (nodes.Master reader) (bodies.Copy copy) (λ row. refl)
       (sound.cover.sent number asking found, tt)
       (λ row stands. (
-        record { within = ((row_in (view w) sound row stands).sent number asking found).within; below = tt },
+        record { within = ((row_in (view w) sound row stands).terms number asking found).within; below = tt },
         λ its. says_copy row stands (row_said (view w) sound row stands number asking found its),
       )) (tt, tt, tt)
 

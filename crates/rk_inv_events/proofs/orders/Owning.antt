@@ -102,7 +102,7 @@ module _ (v : View) (sound : SoundView v) (master number : ℕ) (lives : v.live 
       speaks_there = source_speaks row.phase master row.term (v.handovers master row.tablet) opens (asked row stands its)
 
       floor_next : IsNext (truths v row ++ rests v row) handover.counter
-      floor_next = rw its.tablet ((row_in v sound row stands).counted master (inl lives) speaks_there)
+      floor_next = rw its.tablet ((row_in v sound row stands).counters.counted master (inl lives) speaks_there)
 
       ends_known : (end : Ended) → IsKnown v.base v.journal end ⊎ IsStagedEnd v.rows (rests v) master number handover.term end → IsKnown v.base v.journal end
       ends_known end = ⊎_elim (λ (known : IsKnown v.base v.journal end). known)
@@ -114,7 +114,7 @@ module _ (v : View) (sound : SoundView v) (master number : ℕ) (lives : v.live 
 
       ends_handed : AreHandedOver v.base row.range v.journal (ends_of (v.completions master number))
       ends_handed = record {
-        reached = rw its.tablet ((row_in v sound row stands).answering master (inl lives) speaks_there);
+        reached = rw its.tablet ((row_in v sound row stands).calls.answering master (inl lives) speaks_there);
         known =
             all_by (IsKnown v.base v.journal) (ends_of (v.completions master number)) (λ end there.
             ends_known end

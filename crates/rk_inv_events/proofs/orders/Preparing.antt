@@ -49,7 +49,7 @@ module _ (w : World) (number master : ℕ) (prepare : Prepare) (sound : IsSound 
   says row stands = row_said v sound row stands number message ordered
 
   fits : (row : Row) → Contains v.rows row → SentFits row (bodies.Prepare prepare)
-  fits row stands = (row_in v sound row stands).sent number message ordered
+  fits row stands = (row_in v sound row stands).terms number message ordered
 
   -- ---- its term is above all that the master keeps there
 

@@ -119,7 +119,7 @@ module _ (w : World) (number sender master : ℕ) (message : Pulled) (sound : Is
     meets_own =
         let ranged : kept.handover.range ≡ its.row.range =
         ap (λ (n : ℕ). (v.handovers master n).range) (sym its.number_is)
-        ∙ (row_in v sound its.row its.pulls.has_row).ranged master (inl (ap not lives))
+        ∙ (row_in v sound its.row its.pulls.has_row).roles.ranged master (inl (ap not lives))
         (ap (λ (members : List Member). is_member members master) its.pulls.lineage_is
         ∙ last_member (its.source ∷ its.target ∷ []) its.target master refl its.here) in
         rw ranged

@@ -56,7 +56,7 @@ module _ (v : View) (sound : SoundView v) (number asker master : ℕ) where
       let message : Message = record { from = nodes.Master asker; to = nodes.Master master; body = bodies.Pull pull } in
       record {
         covered = sound.cover.sent number message there;
-        says = λ row stands. (((row_in v sound row stands).sent number message there).within, row_said v sound row stands number message there);
+        says = λ row stands. (((row_in v sound row stands).terms number message there).within, row_said v sound row stands number message there);
       }
 
   asked_by_want : (want : Want) → get v.wire number ≡ Some (record { from = nodes.Master asker; to = nodes.Master master; body = bodies.Want want })
@@ -65,7 +65,7 @@ module _ (v : View) (sound : SoundView v) (number asker master : ℕ) where
       let message : Message = record { from = nodes.Master asker; to = nodes.Master master; body = bodies.Want want } in
       record {
         covered = sound.cover.sent number message there;
-        says = λ row stands. (((row_in v sound row stands).sent number message there).within, row_said v sound row stands number message there);
+        says = λ row stands. (((row_in v sound row stands).terms number message there).within, row_said v sound row stands number message there);
       }
 
 -- ---- what it answers
@@ -103,7 +103,7 @@ module _ (v : View) (sound : SoundView v) (asker master : ℕ) (tenure : Tenure)
 
     table : IsTableOf row.range (member_truth v.written row.range source) (v.records master)
     table = rw lineage_is at
-        ((row_in v sound row stands).items master lives
+        ((row_in v sound row stands).tables master lives
         (first_has_all source target master handover row.term (v.written master).applied here row.phase lineage_is fits))
 
     -- its live items are the scan of what counts for the row

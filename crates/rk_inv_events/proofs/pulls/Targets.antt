@@ -169,7 +169,7 @@ module _ (v : View) (sound : SoundView v) (row : Row) (source target : Member) (
   own list = items_of (entries_from row.range target.from list)
 
   its : IsTargetIn v.written row source target (v.handovers target.master row.tablet) (v.pullings target.master row.tablet) (get v.handed row.tablet) (v.records target.master)
-  its = subst (MembersFit row v.written v.handovers v.pullings v.records v.handed) pulls.lineage_is (row_in v sound row pulls.has_row).target
+  its = subst (MembersFit row v.written v.handovers v.pullings v.records v.handed) pulls.lineage_is (row_in v sound row pulls.has_row).receives.target
       (ap is_granted pulls.receiving)
 
   -- what the source has applied is all that counts of it

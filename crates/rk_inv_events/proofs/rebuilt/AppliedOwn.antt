@@ -38,7 +38,7 @@ module _ (v : View) (row : Row) (to place : ℕ) (sound : SoundView v) (has_row 
       let kept = kept_passes (λ m. not (is_mark_of row.tablet row.term m)) w.marks m stands in
       let fits : MarkFits row to (v.handovers to row.tablet) (v.live to) w m =
       All-contains (λ m. m.tablet ≡ row.tablet → MarkFits row to (v.handovers to row.tablet) (v.live to) w m) w.marks m
-      ((row_in v sound row has_row).marks to) (filter_from (λ m. not (is_mark_of row.tablet row.term m)) w.marks m stands) its in
+      ((row_in v sound row has_row).rebuilds.marks to) (filter_from (λ m. not (is_mark_of row.tablet row.term m)) w.marks m stands) its in
       let both : is_mark_of row.tablet row.term m ≡ true =
       and_from (eqb m.tablet row.tablet) (nat_le m.term row.term) (eq-eqb m.tablet row.tablet its) (le-leb m.term row.term fits.within) in
       false≢true (ap not (sym both) ∙ kept)

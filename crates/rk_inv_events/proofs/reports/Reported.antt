@@ -127,7 +127,7 @@ module _ (w : World) (number sender : ℕ) (sound : IsSound w) where
       (and_from (is_opening row.phase && (transfer.tenure.tablet == row.tablet)) (transfer.tenure.term == row.term)
       (and_from (is_opening row.phase) (transfer.tenure.tablet == row.tablet) opens (eq-eqb transfer.tenure.tablet row.tablet its.tablet))
       (eq-eqb transfer.tenure.term row.term its.term))
-      ((row_in (view w) sound row there).ends_sent number (from_sender (bodies.Transfer transfer)) stands)
+      ((row_in (view w) sound row there).calls.sent number (from_sender (bodies.Transfer transfer)) stands)
 
   module _ (formed : IsWellFormed w) where
     some : (row : Row) → Contains w.coordinator.rows row → HasSome row.range

@@ -87,9 +87,9 @@ served_at w master table key number tablet sound formed there alive found =
     let serves : is_serving (v.handovers master its.row.tablet).role ≡ true =
     ap (λ (t : Tablet). is_serving t.handover.role) here ∙ parts.0 in
     let ends : EndsWith (lineage_of its.row.phase) master =
-    (serves_as (v.handovers master its.row.tablet) its.row.term (v.written master).applied serves its.row.phase master row.formed
-    (row.fitting master (inl alive))).0 in
-    let range = row.ranged master (inl alive) (last_member (lineage_of its.row.phase) ends.last master ends.is_last ends.here) in
+    (serves_as (v.handovers master its.row.tablet) its.row.term (v.written master).applied serves its.row.phase master row.rows.formed
+    (row.roles.fitting master (inl alive))).0 in
+    let range = row.roles.ranged master (inl alive) (last_member (lineage_of its.row.phase) ends.last master ends.is_last ends.here) in
     record {
       served = record {
         lives = alive;

@@ -175,7 +175,7 @@ module _ (v : View) (sound : SoundView v) (row : Row) (has_row : Contains v.rows
     state_tells knows =
         let all : items_of (truths v row ++ rests v row) ≡ items_of (truths v row) ++ items_of (rests v row) =
         flat_map-append items_in (truths v row) (rests v row) in
-        let above : AreAbove (items_of (truths v row)) (items_of (rests v row)) = (row_in v sound row has_row).above in
+        let above : AreAbove (items_of (truths v row)) (items_of (rests v row)) = (row_in v sound row has_row).order in
         let plain : IsPlain (items_of (truths v row)) = (row_true v sound row has_row).plain in
         state_record (items_of (truths v row)) (items_of (rests v row)) (items_of waiting) table key
         (subst IsPlain all (plain_all (truths v row) (rests v row) plain above)) above
@@ -396,7 +396,7 @@ module _ (v : View) (sound : SoundView v) (master : ℕ) (call : Call) (served :
   pub version_above : last_version left_at_key < (v.handovers master served.row.tablet).counter
   version_above =
       let low : AreAboveMap served.row.range (map_after (base_map v.base) v.journal) (truths v served.row) =
-      (row_in v sound served.row served.has_row).low in
+      (row_in v sound served.row served.has_row).counters.low in
       let staged =
       low_staged v.base v.journal v.asked served.row.range (map_after (base_map v.base) v.journal) (truths v served.row)
       (rests v served.row) goes_on.staged low call.table call.key served.in_row in
@@ -438,7 +438,7 @@ module _ (v : View) (sound : SoundView v) (master : ℕ) (call : Call) (served :
     reach : ReachAll served.row.range v.journal (ends_of completions)
     reach =
         rw is
-        ((row_in v sound served.row served.has_row).answering master (inl served.lives)
+        ((row_in v sound served.row served.has_row).calls.answering master (inl served.lives)
         (speaks_serving (post_of served.row.phase master) (v.handovers master served.row.tablet) served.row.term served.serves))
 
     its_last : (last : IsLastAsked v.asked v.journal call.client call.seq call.table call.key) × (last.last.call ≡ call)

@@ -402,33 +402,33 @@ module _ (v : View) (b : Applies v) where
   row_now row has tells =
       let was : SoundRow v row = row_in v b.sound row has in
       let floor_granted : IfSome (handed_for_grant row v.handovers v.handed) (λ h. IsNextOf now row h.floor) =
-      IfSome_then (handed_for_grant row v.handovers v.handed) was.floor_granted (λ h. next_now row tells h.floor) in
+      IfSome_then (handed_for_grant row v.handovers v.handed) was.counters.granted (λ h. next_now row tells h.floor) in
       let floor_sent : EachIn (λ n m. IfSome (handed_by row v.handovers m.body) (λ h. IsNextOf now row h.floor)) v.wire = λ n m there.
-      IfSome_then (handed_by row v.handovers m.body) (was.floor_sent n m there) (λ h. next_now row tells h.floor) in
+      IfSome_then (handed_by row v.handovers m.body) (was.counters.sent n m there) (λ h. next_now row tells h.floor) in
       let marks : (q : ℕ) → All (λ mark. mark.tablet ≡ row.tablet → MarkFits row q (v.handovers q row.tablet) (v.live q) (now.written q) mark) (v.written q).marks = λ q i mark inside its.
-      mark_same row q (slice_index_or (v.written q).marks i mark) (was.marks q i mark inside its) in
+      mark_same row q (slice_index_or (v.written q).marks i mark) (was.rebuilds.marks q i mark inside its) in
       assumption (
         was,
         tells.history,
         tells,
         λ (q : ℕ) (counts : CountsFor v row q).
             holds_more (bond_of (post_of row.phase q) (v.handovers q row.tablet).role) row.term (v.handovers q row.tablet).term
-            (v.written q).applied (now.written q).applied (applied_grows q) (was.fitting q counts),
+            (v.written q).applied (now.written q).applied (applied_grows q) (was.roles.fitting q counts),
         λ (q : ℕ) (counts : CountsFor v row q) (says : SpeaksFor v row q).
-            next_now row tells (v.handovers q row.tablet).counter (was.counted q counts says),
+            next_now row tells (v.handovers q row.tablet).counter (was.counters.counted q counts says),
         floor_granted,
         floor_sent,
-        done_at row has (lineage_of row.phase) refl was.done,
-        unnamed_at row.range (lineage_of row.phase) was.unnamed,
+        done_at row has (lineage_of row.phase) refl was.rest.done,
+        unnamed_at row.range (lineage_of row.phase) was.rest.unnamed,
         λ (q : ℕ) (counts : CountsFor v row q) (idles : is_idle (v.handovers q row.tablet).role ≡ true).
-            let none = was.idle q counts idles in
+            let none = was.rest.idle q counts idles in
             of_applied (λ n. list_any (touches row.range) (drop n (v.written q).entries) ≡ false) q
             (λ at. none_fewer (touches row.range) (v.written q).applied (v.written q).entries none) (λ apart. none),
-        members_at row has (lineage_of row.phase) refl was.target,
-        named_at row has (lineage_of row.phase) refl was.named_items,
-        rebuilt_at row has tells.still row.phase refl was.rebuilt,
+        members_at row has (lineage_of row.phase) refl was.receives.target,
+        named_at row has (lineage_of row.phase) refl was.receives.named,
+        rebuilt_at row has tells.still row.phase refl was.rebuilds.rebuilt,
         marks,
-        λ (n : ℕ) (m : Message) (there : get v.wire n ≡ Some m). says_now row has m.from m.to m.body (was.says n m there),
+        λ (n : ℕ) (m : Message) (there : get v.wire n ≡ Some m). says_now row has m.from m.to m.body (was.messages n m there),
       )
 
   pub view_applied : SoundBeside now → ((row : Row) → Contains v.rows row → Tells v now row) → SoundView now

@@ -124,7 +124,7 @@ module _ (v : View) (a : Applying v) where
 
   -- its lineage has one member, or two
   pub apart_in : (other : Row) → Contains v.rows other → AreApart (lineage_of other.phase)
-  apart_in other stands = formed_apart other.phase (row_in v a.sound other stands).formed
+  apart_in other stands = formed_apart other.phase (row_in v a.sound other stands).rows.formed
 
   -- if the first of two members is the master, the entry is not of the range
   pub first_apart : (other : Row) → Contains v.rows other → (first second : Member) (more : List Member) → lineage_of other.phase ≡ first ∷ second ∷ more → first.master ≡ a.master → counts other.range entry ≡ false
@@ -138,13 +138,13 @@ module _ (v : View) (a : Applying v) where
 
   -- the role of the master fits its post, it keeps the row's range, and it speaks for the row
   pub its_fits : RoleFits its_row a.master (v.handovers a.master its_row.tablet) place
-  its_fits = (row_in v a.sound its_row a.waits.has_row).fitting a.master (inl lives)
+  its_fits = (row_in v a.sound its_row a.waits.has_row).roles.fitting a.master (inl lives)
 
   pub its_member : is_member (lineage_of its_row.phase) a.master ≡ true
   its_member = last_member (lineage_of its_row.phase) a.waits.last a.master a.waits.is_last a.waits.here
 
   pub its_range : (v.handovers a.master its_row.tablet).range ≡ its_row.range
-  its_range = (row_in v a.sound its_row a.waits.has_row).ranged a.master (inl lives) its_member
+  its_range = (row_in v a.sound its_row a.waits.has_row).roles.ranged a.master (inl lives) its_member
 
   pub its_speaker : a.master ≡ speaker_of its_row.phase
   its_speaker = grind (arith, its_fits, cases_eq, speaker_of, post_of, quiet_others)

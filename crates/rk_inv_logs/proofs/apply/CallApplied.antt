@@ -256,20 +256,20 @@ module _ (v : View) (a : Applying v) where
       record {
         history = history_here s;
         moving = of_target v (after v a).written row (TellAll row.range v.journal) (TellAll row.range (after v a).journal)
-            (λ last is front. tell_here s _ _ (grows last is front)) row.phase refl was.moving;
+            (λ last is front. tell_here s _ _ (grows last is front)) row.phase refl was.calls.moving;
         low_moving = of_target v (after v a).written row (AreAboveMap row.range (map_after (base_map v.base) v.journal))
             (AreAboveMap row.range (map_after (base_map v.base) (after v a).journal))
-            (λ last is front. low_here s _ _ (grows last is front)) row.phase refl was.low_moving;
+            (λ last is front. low_here s _ _ (grows last is front)) row.phase refl was.counters.moving;
         still = told_still (entry v a) (truths v row) (truths (after v a) row) (truth_here v a) items_in;
         floor = omega (arith, floor, rest);
         answering = λ q counts says.
             let at : q ≡ a.master =
-            speaker_is row q (v.handovers q row.tablet) (v.written q).applied (was.fitting q counts) says ∙ sym (its_speaker v a) in
+            speaker_is row q (v.handovers q row.tablet) (v.written q).applied (was.roles.fitting q counts) says ∙ sym (its_speaker v a) in
             of_completions v a (λ c. ReachAll row.range (after v a).journal (ends_of c)) q row.tablet
             (λ _ _.
             subst (λ (m : ℕ). ReachAll row.range (after v a).journal (ends_of (noted (v.completions m row.tablet) a.end))) (sym at)
             (reach_noted v a
-            (subst (λ (m : ℕ). ReachAll row.range v.journal (ends_of (v.completions m row.tablet))) at (was.answering q counts says))))
+            (subst (λ (m : ℕ). ReachAll row.range v.journal (ends_of (v.completions m row.tablet))) at (was.calls.answering q counts says))))
             (λ apart. absurd (apart at refl));
         ends_granted =
             rw
@@ -277,10 +277,10 @@ module _ (v : View) (a : Applying v) where
             (none_waits v row a.waits.last stages (lineage_of row.phase) (apart_in v a row a.waits.has_row) a.waits.is_last)) tt;
         ends_sent = λ n m there.
             rw
-            (none_hands v row a.waits.last stages m.from m.to m.body (was.says n m there) (apart_in v a row a.waits.has_row) a.waits.is_last
+            (none_hands v row a.waits.last stages m.from m.to m.body (was.messages n m there) (apart_in v a row a.waits.has_row) a.waits.is_last
             (a.waits.here ∙ its_speaker v a)) tt;
-        items = λ q alive all. items_its v a q all (was.items q alive all);
-        handed_on = handed_at row a.waits.has_row (lineage_of row.phase) refl was.handed_on;
+        items = λ q alive all. items_its v a q all (was.tables q alive all);
+        handed_on = handed_at row a.waits.has_row (lineage_of row.phase) refl was.receives.handed_on;
       }
 
   -- and of each other one
@@ -306,20 +306,20 @@ module _ (v : View) (a : Applying v) where
             (history_of v row a.sound has));
         moving = of_target v (after v a).written row (TellAll row.range v.journal) (TellAll row.range (after v a).journal)
             (λ last is front told. rw (same last) (tell_there s row.range out (front ++ member_truth v.written row.range last) told))
-            row.phase refl was.moving;
+            row.phase refl was.calls.moving;
         low_moving = of_target v (after v a).written row (AreAboveMap row.range (map_after (base_map v.base) v.journal))
             (AreAboveMap row.range (map_after (base_map v.base) (after v a).journal))
             (λ last is front told. rw (same last) (low_there s row.range out (front ++ member_truth v.written row.range last) told))
-            row.phase refl was.low_moving;
+            row.phase refl was.counters.moving;
         still = λ x at. rw (truth_beside_row v a row has differs) at;
         floor = rw (truth_beside_row v a row has differs, rest_beside_row v a row has differs) (omega arith);
         answering = λ q counts says.
             of_completions v a (λ c. ReachAll row.range (after v a).journal (ends_of c)) q row.tablet (λ at its. absurd (differs its))
-            (λ apart. reach (ends_of (v.completions q row.tablet)) (was.answering q counts says));
-        ends_granted = IfSome_then (handed_for_grant row v.handovers v.handed) was.ends_granted (λ h. handed h.ends);
-        ends_sent = λ n m there. IfSome_then (handed_by row v.handovers m.body) (was.ends_sent n m there) (λ h. handed h.ends);
-        items = λ q alive all. items_beside v a row uncounted q (was.items q alive all);
-        handed_on = handed_at row has (lineage_of row.phase) refl was.handed_on;
+            (λ apart. reach (ends_of (v.completions q row.tablet)) (was.calls.answering q counts says));
+        ends_granted = IfSome_then (handed_for_grant row v.handovers v.handed) was.calls.granted (λ h. handed h.ends);
+        ends_sent = λ n m there. IfSome_then (handed_by row v.handovers m.body) (was.calls.sent n m there) (λ h. handed h.ends);
+        items = λ q alive all. items_beside v a row uncounted q (was.tables q alive all);
+        handed_on = handed_at row has (lineage_of row.phase) refl was.receives.handed_on;
       }
 
   pub tells : (row : Row) → Contains v.rows row → Tells v (after v a) row

@@ -108,7 +108,7 @@ module _ (v : View) (master : ℕ) (joined : Joined) (sound : SoundView v) (may 
   -- the first of two names no more than what it has applied
   first_still : (row : Row) → Contains v.rows row → (first second : Member) (more : List Member) → lineage_of row.phase ≡ first ∷ second ∷ more → IsStill v.written (with_one_applied v.written master) row.range first
   first_still row has first second more is =
-      let done : FirstIsDone v.written row.range (first ∷ second ∷ more) = rw is at (row_in v sound row has).done in
+      let done : FirstIsDone v.written row.range (first ∷ second ∷ more) = rw is at (row_in v sound row has).rest.done in
       elim (either row.range first) [
         | inl same ↦ same
         | inr named_it ↦
@@ -124,7 +124,7 @@ module _ (v : View) (master : ℕ) (joined : Joined) (sound : SoundView v) (may 
   only_still : (row : Row) → Contains v.rows row → (only : Member) → lineage_of row.phase ≡ only ∷ [] → IsStill v.written (with_one_applied v.written master) row.range only
   only_still row has only is =
       let unnamed : OnlyIsUnnamed v.written row.range (only ∷ []) =
-      rw is at (row_in v sound row has).unnamed in
+      rw is at (row_in v sound row has).rest.unnamed in
       elim (either row.range only) [
         | inl same ↦ same
         | inr named_it ↦
@@ -143,7 +143,7 @@ module _ (v : View) (master : ℕ) (joined : Joined) (sound : SoundView v) (may 
       → Contains (member_truth v.written row.range first) e
   named_first row has first second is e named_it =
       let fit : NamedFit v.written row.range (first ∷ second ∷ []) =
-      rw is at (row_in v sound row has).named_items in
+      rw is at (row_in v sound row has).receives.named in
       rw named_it.is at (item_entry (member_truth v.written row.range first) named_it.item (fit named_it.item named_it.stands))
 
   last_gains : (row : Row) → Contains v.rows row → (lineage : List Member) → AreApart lineage → lineage_of row.phase ≡ lineage → (last : Member) → last_of lineage ≡ Some last → Gains v (with_one_applied v.written master) row last
@@ -181,7 +181,7 @@ module _ (v : View) (master : ℕ) (joined : Joined) (sound : SoundView v) (may 
     none = none_waits;
     firsts = first_still;
     only = λ row has only is. ap items_of (only_still row has only is).truth;
-    lasts = λ row has. last_gains row has (lineage_of row.phase) (formed_apart row.phase (row_in v sound row has).formed) refl;
+    lasts = λ row has. last_gains row has (lineage_of row.phase) (formed_apart row.phase (row_in v sound row has).rows.formed) refl;
     copied = inl refl;
     own = λ row has found.
         applied_named row.range (v.written master) joined may.stands may.unmarked (own_place (v.handovers master row.tablet).role)

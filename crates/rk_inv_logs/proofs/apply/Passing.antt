@@ -153,7 +153,7 @@ Adds v row head old now = (more : HasMore old now) × ((e : Entry) → Contains 
 pub row_keeps : (v : View) (p : Passing v) (row : Row) → Contains v.rows row
     → KeepsRow v.base v.journal (truths v row) (rests v row) (truths (entry_applied v p.master p.entry) row) (rests (entry_applied v p.master p.entry) row)
 row_keeps v p row has =
-    let apart : AreApart (lineage_of row.phase) = formed_apart row.phase (row_in v p.sound row has).formed in
+    let apart : AreApart (lineage_of row.phase) = formed_apart row.phase (row_in v p.sound row has).rows.formed in
     let last = has_last (lineage_of row.phase) apart in
     let gains = p.lasts row has last.0 last.1 in
     let grown =
@@ -280,20 +280,20 @@ module _ (v : View) (p : Passing v) where
             (history_of v row p.sound has);
         moving = of_target v now.written row (TellAll row.range v.journal) (TellAll row.range v.journal)
             (λ last is front. tell_more row.range v.journal _ _ (more_behind (p.lasts row has last is).more front)) row.phase refl
-            was.moving;
+            was.calls.moving;
         low_moving = of_target v now.written row (AreAboveMap row.range (map_after (base_map v.base) v.journal))
             (AreAboveMap row.range (map_after (base_map v.base) v.journal))
             (λ last is front.
             low_more row.range (map_after (base_map v.base) v.journal) _ _ (more_behind (p.lasts row has last is).more front)) row.phase
             refl
-            was.low_moving;
+            was.counters.moving;
         still = λ x. (items_keep keeps x).0;
         floor = floor_keeps keeps;
-        answering = was.answering;
-        ends_granted = was.ends_granted;
-        ends_sent = was.ends_sent;
-        items = λ q alive all. items_at q row has all (was.items q alive all);
-        handed_on = was.handed_on;
+        answering = was.calls.answering;
+        ends_granted = was.calls.granted;
+        ends_sent = was.calls.sent;
+        items = λ q alive all. items_at q row has all (was.tables q alive all);
+        handed_on = was.receives.handed_on;
       }
 
   -- no call waited for the entry
@@ -350,7 +350,7 @@ module _ (v : View) (master : ℕ) (carried : Carried) (sound : SoundView v) (ma
   -- the first of two has nothing behind what it has applied
   first_still : (row : Row) → Contains v.rows row → (first second : Member) (more : List Member) → lineage_of row.phase ≡ first ∷ second ∷ more → IsStill v.written (with_one_applied v.written master) row.range first
   first_still row has first second more is =
-      let done : FirstIsDone v.written row.range (first ∷ second ∷ more) = rw is at (row_in v sound row has).done in
+      let done : FirstIsDone v.written row.range (first ∷ second ∷ more) = rw is at (row_in v sound row has).rest.done in
       elim (either row.range first) [ inl same ↦ same | inr taken ↦ absurd (cc (sym taken.rest ∙ done.rest)) ]
 
   items_same : (range : Range) (member : Member) → items_of (member_truth (with_one_applied v.written master) range member) ≡ items_of (member_truth v.written range member)
@@ -374,7 +374,7 @@ module _ (v : View) (master : ℕ) (carried : Carried) (sound : SoundView v) (ma
             items = refl;
             ends = refl;
             known = All-head (IsStaged v.base v.asked v.journal) entry (member_rest after row.range last)
-                (rw first at (row_in v sound row has).goes_on.staged);
+                (rw first at (row_in v sound row has).rest.goes_on.staged);
           }) (All-nil (IsQuietEntry v.base v.journal));
           from = λ e at. inr at;
         }
@@ -439,7 +439,7 @@ module _ (v : View) (master : ℕ) (entry : Entry) (sound : SoundView v) (may : 
   of_range =
       let piece : HasOwnRange its_row.0.range (v.written master).entries the_mark.0 =
       All-contains (λ (m : Mark). m.tablet ≡ its_row.0.tablet → HasOwnRange its_row.0.range (v.written master).entries m)
-      (v.written master).marks the_mark.0 (row_says.pieces master) the_mark.1 same_tablet in
+      (v.written master).marks the_mark.0 (row_says.rebuilds.pieces master) the_mark.1 same_tablet in
       All-contains (IsOfRange its_row.0.range) _ entry piece
       (in_piece (v.written master).entries the_mark.0.first the_mark.0.past (v.written master).applied entry the_mark.2 the_mark.3 may.stands)
 

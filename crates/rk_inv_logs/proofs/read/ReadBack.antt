@@ -416,7 +416,7 @@ module _ (v : View) (row : Row) (to place : ℕ) (ends : List Ended) (sound : So
       let has : (e : Entry) → Contains its e → Contains truth e = λ e at. Contains-append_left its [] e at in
       let read : List Entry = part v (taken lineage may) g there in
       let unnamed : OnlyIsUnnamed v.written row.range lineage =
-      in_lineage v (taken lineage may) (OnlyIsUnnamed v.written row.range) (its_row v (taken lineage may)).unnamed in
+      in_lineage v (taken lineage may) (OnlyIsUnnamed v.written row.range) (its_row v (taken lineage may)).rest.unnamed in
       let w : Written = v.written m.master in
       conclude lineage (g ∷ []) (counted_of row.range g ∷ own ∷ []) may are (only_read row.range to own g other)
       (last_back v (taken lineage may) g there truth [] [] (own ∷ [])
@@ -460,11 +460,11 @@ module _ (v : View) (row : Row) (to place : ℕ) (ends : List Ended) (sound : So
   -- the first one has nothing that is not applied
   first_done : (first last : Member) → (may : MayTakeRebuilt v row (first ∷ last ∷ []) to place ends) → IsDone v.written row.range first
   first_done first last may =
-      in_lineage v (taken (first ∷ last ∷ []) may) (FirstIsDone v.written row.range) (its_row v (taken (first ∷ last ∷ []) may)).done
+      in_lineage v (taken (first ∷ last ∷ []) may) (FirstIsDone v.written row.range) (its_row v (taken (first ∷ last ∷ []) may)).rest.done
 
   names_first : (first last : Member) → (may : MayTakeRebuilt v row (first ∷ last ∷ []) to place ends) → NamedFit v.written row.range (first ∷ last ∷ [])
   names_first first last may =
-      in_lineage v (taken (first ∷ last ∷ []) may) (NamedFit v.written row.range) (its_row v (taken (first ∷ last ∷ []) may)).named_items
+      in_lineage v (taken (first ∷ last ∷ []) may) (NamedFit v.written row.range) (its_row v (taken (first ∷ last ∷ []) may)).receives.named
 
   -- so all of it is of the truth
   first_in : (first last : Member) → (may : MayTakeRebuilt v row (first ∷ last ∷ []) to place ends) → (e : Entry) → Contains (member_material v.written row.range first) e → Contains (lineage_truth v.base v.written row.range (first ∷ last ∷ [])) e

@@ -87,7 +87,7 @@ module _ (v : View) (t : Taken v) where
   at = rebuilt_at builder.role its_written.applied t.place t.may.rebuilt
 
   pub apart : AreApart t.lineage
-  apart = in_phase IsFormed its_row.formed
+  apart = in_phase IsFormed its_row.rows.formed
 
   -- what the row says of its master
   rebuilt : RowIsRebuilt t.row (Rebuilding t.lineage t.to) (truths v t.row) v.logs v.written v.stored v.handovers v.completions v.gathers v.merged v.records v.live
@@ -130,7 +130,7 @@ module _ (v : View) (t : Taken v) where
   pub own_stands : (is_member t.lineage t.to ≡ false) ⊎ Contains t.lineage (member_at t.to t.place)
   own_stands =
       let fits : Holds (bond_of (post_of t.row.phase t.to) builder.role) t.row.term builder.term its_written.applied =
-      its_row.fitting t.to (inr t.may.term_is) in
+      its_row.roles.fitting t.to (inr t.may.term_is) in
       let by_post : Holds (bond_of (rebuilder_post t.lineage t.to) (roles.Rebuilding t.place (Some at.entry))) t.row.term builder.term its_written.applied =
       rw (eq-eqb t.to t.to refl) at
       (rw at.role_is at (in_phase (λ (p : Phase). Holds (bond_of (post_of p t.to) builder.role) t.row.term builder.term its_written.applied) fits)) in
@@ -278,7 +278,7 @@ module _ (v : View) (t : Taken v) (gathered : Gathered) (there : Contains (v.gat
   backed : IsBackup (v.logs gathered.member.master) READ_BACKUP
   backed =
       let master : IsMaster v.masters its_member.master =
-      (its_row v t).named its_member.master
+      (its_row v t).nodes its_member.master
       (ap (λ (phase : Phase). names phase its_member.master) t.may.phase_is ∙ or_right (t.to == its_member.master) (is_member t.lineage its_member.master) is_one) in
       record { first = omega arith; last = omega (arith, t.sound.nodes.known its_member.master master, t.sound.nodes.backed) }
 

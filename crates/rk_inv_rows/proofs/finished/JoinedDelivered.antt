@@ -125,7 +125,7 @@ module _ (v : View) (row : Row) (source target : Member) (sound : SoundView v) (
 
   -- what the target names is of its source
   copied : (item : Held) → Contains (named_items row.range target.from w) item → Contains (items_of of_source) item
-  copied = subst (λ (p : Phase). NamedFit v.written row.range (lineage_of p)) may.phase_is row_was.named_items
+  copied = subst (λ (p : Phase). NamedFit v.written row.range (lineage_of p)) may.phase_is row_was.receives.named
 
   never : (lineage : List Member) (to : ℕ) → row.phase ≡ Rebuilding lineage to → ⊥
   never lineage to is = let same : moving ≡ Rebuilding lineage to = sym may.phase_is ∙ is in absurd (cc same)

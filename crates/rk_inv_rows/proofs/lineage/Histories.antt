@@ -8,11 +8,11 @@ use Rattle.rk_inv_base.proofs.logs.Grows.{still_contains}
 pub history_of : (v : View) (row : Row) → SoundView v → Contains v.rows row → TellHistory v.base row.range (truths v row) (rests v row) v.journal v.asked
 history_of v row sound has = record {
   leaves = (row_in v sound row has).truth;
-  above = (row_in v sound row has).above;
-  ends = (row_in v sound row has).reached;
-  known = (row_in v sound row has).recorded;
-  low = (row_in v sound row has).low;
-  goes_on = (row_in v sound row has).goes_on;
+  above = (row_in v sound row has).order;
+  ends = (row_in v sound row has).calls.reached;
+  known = (row_in v sound row has).calls.recorded;
+  low = (row_in v sound row has).counters.low;
+  goes_on = (row_in v sound row has).rest.goes_on;
 }
 
 -- a master that keeps the row's term keeps its range

@@ -257,7 +257,7 @@ module _ (v : View) (row : Row) (source sfrom target dfrom : ℕ) (sound : Sound
   -- ---- what the source handed over
 
   at_term : ((v.handovers source row.tablet).term ≡ row.term) × (taker.term ≡ row.term)
-  at_term = in_phase (λ p. KeepTerm p (λ q. (v.handovers q row.tablet).term) row.term) row_was.at_term
+  at_term = in_phase (λ p. KeepTerm p (λ q. (v.handovers q row.tablet).term) row.term) row_was.roles.at_term
 
   abbrev given : Handed
   given = record { floor = (v.handovers source row.tablet).counter; ends = ends_of (v.completions source row.tablet) }
@@ -301,7 +301,7 @@ module _ (v : View) (row : Row) (source sfrom target dfrom : ℕ) (sound : Sound
   ends : TellAll row.range v.journal now_truth
   ends k d within inside mutates =
       let call : Call = (slice_index_or v.journal k d).call in
-      let reached = of_target (TellAll row.range v.journal) row_was.moving k d within inside mutates in
+      let reached = of_target (TellAll row.range v.journal) row_was.calls.moving k d within inside mutates in
       record {
         end = reached.end;
         stands =
@@ -314,7 +314,7 @@ module _ (v : View) (row : Row) (source sfrom target dfrom : ℕ) (sound : Sound
   low table key inside =
       let below =
       of_target (AreAboveMap row.range (map_after (base_map v.base) v.journal))
-      row_was.low_moving table key inside in
+      row_was.counters.moving table key inside in
       let more = floor_among (of_key table key behind_given) (of_key table key now_truth) (key_stands table key) in
       omega (arith, below, more)
 
@@ -413,7 +413,7 @@ module _ (v : View) (row : Row) (source sfrom target dfrom : ℕ) (sound : Sound
   members =
       assumption (
         All-tail (IsPlaced v.written) (member_at source sfrom) (last ∷ [])
-            (in_phase (λ p. All (IsPlaced v.written) (lineage_of p)) row_was.placed),
+            (in_phase (λ p. All (IsPlaced v.written) (lineage_of p)) row_was.rows.placed),
         unnamed,
       )
 

@@ -202,7 +202,7 @@ module _ (v : View) (row : Row) (phase : Phase) (handed : NumberMap Handed) (sou
 
   -- no message hands over for the row now
   nothing_handed : (P : Handed → Type 0) (n : ℕ) (m : Message) → get v.wire n ≡ Some m → IfSome (handed_by turned_row v.handovers m.body) P
-  nothing_handed P n m there = rw (none_handed v row phase handed passed m.from m.to m.body (was.says n m there)) tt
+  nothing_handed P n m there = rw (none_handed v row phase handed passed m.from m.to m.body (was.messages n m there)) tt
 
   -- a number is next behind what counts now, if it was next behind what counted
   next_still : (number : ℕ) → IsNext (truths v row ++ rests v row) number → IsNext (truths v turned_row ++ rests v turned_row) number
@@ -223,41 +223,42 @@ module _ (v : View) (row : Row) (phase : Phase) (handed : NumberMap Handed) (sou
 
   holds : SoundRow now turned_row
   holds = record {
-    named = λ q is. was.named q (passed.named q is);
-    begun = was.begun;
-    formed = passed.formed was.formed;
-    placed = may.members.placed;
-    sent = λ n m there. let fits = was.sent n m there in record { within = fits.within; below = fits.below };
-    fitting = may.fits;
-    ranged = λ q counting. member_range v row phase sound may.has_row passed q (was.ranged q counting);
-    at_term = may.at_term;
+    nodes = λ q is. was.nodes q (passed.named q is);
+    rows = record { begun = was.rows.begun; formed = passed.formed was.rows.formed; placed = may.members.placed };
+    terms = λ n m there. let fits = was.terms n m there in record { within = fits.within; below = fits.below };
+    roles = record {
+      fitting = may.fits;
+      ranged = λ q counting. member_range v row phase sound may.has_row passed q (was.roles.ranged q counting);
+      at_term = may.at_term;
+    };
     truth = may.history.leaves;
-    above = may.history.above;
-    reached = may.history.ends;
-    recorded = may.history.known;
-    moving = may.left.ends;
-    answering = λ q counting says. was.answering q counting (may.speaks q counting says);
-    ends_granted = IfSome_then (handed_for_grant turned_row v.handovers handed) may.left.granted (λ h both. both.0);
-    ends_sent = nothing_handed (λ h. AreHandedOver v.base row.range v.journal h.ends);
-    low = may.history.low;
-    low_moving = may.left.low;
-    counted = λ q counting says. next_still (v.handovers q row.tablet).counter (was.counted q counting (may.speaks q counting says));
-    floor_granted = IfSome_then (handed_for_grant turned_row v.handovers handed) may.left.granted (λ h both. both.1);
-    floor_sent = nothing_handed (λ h. IsNext (truths v turned_row ++ rests v turned_row) h.floor);
-    goes_on = may.history.goes_on;
-    done = may.members.done;
-    unnamed = may.members.unnamed;
-    idle = was.idle;
-    items = may.full;
-    target = may.members.target;
-    handed_on = may.members.handed_on;
-    named_items = may.members.named;
-    rebuilt = unrebuilt;
-    marks = λ q k d within its.
-        let rebuilt = (was.marks q k d within its).rebuilt in
-        absurd (never_rebuilt row.phase phase may.passes rebuilt.0 rebuilt.1 rebuilt.2);
-    pieces = was.pieces;
-    says = λ n m there. says v row phase handed passed m.from m.to m.body (was.sent n m there) (was.says n m there);
+    order = may.history.above;
+    calls = record {
+      reached = may.history.ends;
+      recorded = may.history.known;
+      moving = may.left.ends;
+      answering = λ q counting says. was.calls.answering q counting (may.speaks q counting says);
+      granted = IfSome_then (handed_for_grant turned_row v.handovers handed) may.left.granted (λ h both. both.0);
+      sent = nothing_handed (λ h. AreHandedOver v.base row.range v.journal h.ends);
+    };
+    counters = record {
+      low = may.history.low;
+      moving = may.left.low;
+      counted = λ q counting says. next_still (v.handovers q row.tablet).counter (was.counters.counted q counting (may.speaks q counting says));
+      granted = IfSome_then (handed_for_grant turned_row v.handovers handed) may.left.granted (λ h both. both.1);
+      sent = nothing_handed (λ h. IsNext (truths v turned_row ++ rests v turned_row) h.floor);
+    };
+    rest = record { goes_on = may.history.goes_on; done = may.members.done; unnamed = may.members.unnamed; idle = was.rest.idle };
+    tables = may.full;
+    receives = record { target = may.members.target; handed_on = may.members.handed_on; named = may.members.named };
+    rebuilds = record {
+      rebuilt = unrebuilt;
+      marks = λ q k d within its.
+          let rebuilt = (was.rebuilds.marks q k d within its).rebuilt in
+          absurd (never_rebuilt row.phase phase may.passes rebuilt.0 rebuilt.1 rebuilt.2);
+      pieces = was.rebuilds.pieces;
+    };
+    messages = λ n m there. says v row phase handed passed m.from m.to m.body (was.terms n m there) (was.messages n m there);
   }
 
   pub view_lineage_taken : SoundView now

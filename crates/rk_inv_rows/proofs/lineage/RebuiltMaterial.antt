@@ -65,7 +65,7 @@ module _ (v : View) (row : Row) (lineage : List Member) (to place : ℕ) (ends :
       let fit =
       in_phase
       (λ p. RowIsRebuilt row p (truths v row) v.logs v.written v.stored v.handovers v.completions v.gathers v.merged v.records v.live)
-      row_was.rebuilt in
+      row_was.rebuilds.rebuilt in
       in_role RebuiltBy (fit.0 may.term_is).merged
 
   abbrev piece : IsPieceOf row.tablet place builder merged_is.merged w at.entry
@@ -109,7 +109,7 @@ module _ (v : View) (row : Row) (lineage : List Member) (to place : ℕ) (ends :
   piece_of_row entry stands =
       let own : HasOwnRange row.range w.entries mark =
       All-contains (λ m. m.tablet ≡ row.tablet → HasOwnRange row.range w.entries m) w.marks mark
-      (row_was.pieces to) piece.marked
+      (row_was.rebuilds.pieces to) piece.marked
       piece.tablet_is in
       let all : All (IsOfRange row.range) pieces =
       rw (← piece.stands, ← piece.past_is) own in
@@ -184,7 +184,7 @@ module _ (v : View) (row : Row) (lineage : List Member) (to place : ℕ) (ends :
       let kept = (kept_stands (λ m. not (is_mark_of row.tablet row.term m)) old_marks m stands).1 in
       let fits : MarkFits row to builder (v.live to) w m =
       All-contains (λ m. m.tablet ≡ row.tablet → MarkFits row to builder (v.live to) w m) old_marks m
-      (row_was.marks to)
+      (row_was.rebuilds.marks to)
       (filter_from (λ m. not (is_mark_of row.tablet row.term m)) old_marks m stands) its in
       let both : is_mark_of row.tablet row.term m ≡ true =
       and_from (eqb m.tablet row.tablet) (nat_le m.term row.term) (eq-eqb m.tablet row.tablet its) (le-leb m.term row.term fits.within) in

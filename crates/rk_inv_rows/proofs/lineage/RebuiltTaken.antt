@@ -156,7 +156,7 @@ module _ (v : View) (row : Row) (lineage : List Member) (to place : ℕ) (ends :
   fits_by q a b is held = grind (arith, rebuilt_here, eqb-true, term_here)
 
   fitted : (q : ℕ) → StillCounts (v.live q) (v.handovers q row.tablet).term row.term → FitsPost q (post_of (Rebuilding lineage to) q)
-  fitted q counting = in_phase (λ p. FitsPost q (post_of p q)) (was.fitting q counting)
+  fitted q counting = in_phase (λ p. FitsPost q (post_of p q)) (was.roles.fitting q counting)
 
   fits : (q : ℕ) → StillCounts (v.live q) (v.handovers q row.tablet).term row.term → FitsPost q (post_of owned q)
   fits q counting = fits_by q (eqb to q) (is_member lineage q) refl (fitted q counting)
@@ -281,48 +281,54 @@ module _ (v : View) (row : Row) (lineage : List Member) (to place : ℕ) (ends :
   -- what holds of the row
   holds : SoundRow now new
   holds = record {
-    named = λ q is. was.named q (passed.named q is);
-    begun = was.begun;
-    formed = tt;
-    placed = grind (arith, member_at, placed_within, some_of, has_row, now.written);
-    sent = λ n m there. let fits = was.sent n m there in record { within = fits.within; below = fits.below };
-    fitting = fits;
-    ranged = λ q counting. member_range v row owned sound has_row passed q (was.ranged q counting);
-    at_term = tt;
+    nodes = λ q is. was.nodes q (passed.named q is);
+    rows = record { begun = was.rows.begun; formed = tt; placed = grind (arith, member_at, placed_within, some_of, has_row, now.written) };
+    terms = λ n m there. let fits = was.terms n m there in record { within = fits.within; below = fits.below };
+    roles = record {
+      fitting = fits;
+      ranged = λ q counting. member_range v row owned sound has_row passed q (was.roles.ranged q counting);
+      at_term = tt;
+    };
     truth = may.history.leaves;
-    above = may.history.above;
-    reached = may.history.ends;
-    recorded = may.history.known;
-    moving = tt;
-    answering = λ q counting. owner_says q counting (λ m. ReachAll row.range journal (ends_of (v.completions m row.tablet))) may.reached;
-    ends_granted = tt;
-    ends_sent = λ n m there. rw (none_for_owned row.tablet row.term row.range to place v.handovers m.body) tt;
-    low = may.history.low;
-    low_moving = tt;
-    counted = λ q counting.
-        owner_says q counting (λ m. IsNextOf now new (v.handovers m row.tablet).counter)
-        (next_now v row lineage to place ends sound (some_of row has_row) taken);
-    floor_granted = tt;
-    floor_sent = λ n m there. rw (none_for_owned row.tablet row.term row.range to place v.handovers m.body) tt;
-    goes_on = may.history.goes_on;
-    done = tt;
-    unnamed =
-        joined_none row.range (drop (max place (v.written to).applied) (v.written to).entries)
-        (later_all (Misses row.range) (v.written to).applied (max place (v.written to).applied) (v.written to).entries (omega arith) missed);
-    idle = was.idle;
-    items = λ q lives. full q;
-    target = tt;
-    handed_on = tt;
-    named_items = tt;
-    rebuilt = tt;
-    marks = λ q.
-        all_by (λ mark. mark.tablet ≡ row.tablet → MarkFits new q (v.handovers q row.tablet) (v.live q) (now.written q) mark)
-        (now.written q).marks (λ mark stands its. absurd (none_left q mark stands its));
-    pieces = λ q.
-        all_by (λ mark. mark.tablet ≡ row.tablet → HasOwnRange row.range (v.written q).entries mark) (now.written q).marks
-        (λ mark stands its. absurd (none_left q mark stands its));
-    says = λ n m there.
-        says_as m.from m.to m.body (says v row owned v.handed passed m.from m.to m.body (was.sent n m there) (was.says n m there));
+    order = may.history.above;
+    calls = record {
+      reached = may.history.ends;
+      recorded = may.history.known;
+      moving = tt;
+      answering = λ q counting. owner_says q counting (λ m. ReachAll row.range journal (ends_of (v.completions m row.tablet))) may.reached;
+      granted = tt;
+      sent = λ n m there. rw (none_for_owned row.tablet row.term row.range to place v.handovers m.body) tt;
+    };
+    counters = record {
+      low = may.history.low;
+      moving = tt;
+      counted = λ q counting.
+          owner_says q counting (λ m. IsNextOf now new (v.handovers m row.tablet).counter)
+          (next_now v row lineage to place ends sound (some_of row has_row) taken);
+      granted = tt;
+      sent = λ n m there. rw (none_for_owned row.tablet row.term row.range to place v.handovers m.body) tt;
+    };
+    rest = record {
+      goes_on = may.history.goes_on;
+      done = tt;
+      unnamed =
+          joined_none row.range (drop (max place (v.written to).applied) (v.written to).entries)
+          (later_all (Misses row.range) (v.written to).applied (max place (v.written to).applied) (v.written to).entries (omega arith) missed);
+      idle = was.rest.idle;
+    };
+    tables = λ q lives. full q;
+    receives = record { target = tt; handed_on = tt; named = tt };
+    rebuilds = record {
+      rebuilt = tt;
+      marks = λ q.
+          all_by (λ mark. mark.tablet ≡ row.tablet → MarkFits new q (v.handovers q row.tablet) (v.live q) (now.written q) mark)
+          (now.written q).marks (λ mark stands its. absurd (none_left q mark stands its));
+      pieces = λ q.
+          all_by (λ mark. mark.tablet ≡ row.tablet → HasOwnRange row.range (v.written q).entries mark) (now.written q).marks
+          (λ mark stands its. absurd (none_left q mark stands its));
+    };
+    messages = λ n m there.
+        says_as m.from m.to m.body (says v row owned v.handed passed m.from m.to m.body (was.terms n m there) (was.messages n m there));
   }
     where
       -- what is said of a row that is owned reads no marks
@@ -339,47 +345,53 @@ module _ (v : View) (row : Row) (lineage : List Member) (to place : ℕ) (ends :
 
     other_row : SoundRow v r → SoundRow now r
     other_row old = record {
-      named = old.named;
-      begun = old.begun;
-      formed = old.formed;
-      placed = old.placed;
-      sent = old.sent;
-      fitting = old.fitting;
-      ranged = old.ranged;
-      at_term = old.at_term;
+      nodes = old.nodes;
+      rows = record { begun = old.rows.begun; formed = old.rows.formed; placed = old.rows.placed };
+      terms = old.terms;
+      roles = record { fitting = old.roles.fitting; ranged = old.roles.ranged; at_term = old.roles.at_term };
       truth = (history r has unlike).leaves;
-      above = (history r has unlike).above;
-      reached = (history r has unlike).ends;
-      recorded = (history r has unlike).known;
-      moving = rw target_as (IfSome_then (target_truth v.written v.handed r r.phase) old.moving (tell_more r has unlike));
-      answering = λ q counting says. reach_more r has unlike (ends_of (v.completions q r.tablet)) (old.answering q counting says);
-      ends_granted =
-          IfSome_then (handed_for_grant r v.handovers v.handed) old.ends_granted (λ h over. hand_more r has unlike h.ends over);
-      ends_sent = λ n m there.
-          IfSome_then (handed_by r v.handovers m.body) (old.ends_sent n m there) (λ h over. hand_more r has unlike h.ends over);
-      low = (history r has unlike).low;
-      low_moving = rw target_as (IfSome_then (target_truth v.written v.handed r r.phase) old.low_moving (above_more r has unlike));
-      counted = λ q counting says. next_as r has unlike (v.handovers q r.tablet).counter (old.counted q counting says);
-      floor_granted =
-          IfSome_then (handed_for_grant r v.handovers v.handed) old.floor_granted (λ h next. next_as r has unlike h.floor next);
-      floor_sent = λ n m there.
-          IfSome_then (handed_by r v.handovers m.body) (old.floor_sent n m there) (λ h next. next_as r has unlike h.floor next);
-      goes_on = (history r has unlike).goes_on;
-      done = done_beside v row sound has_row r has unlike some (lineage_of r.phase) old.done;
-      unnamed = unnamed_as r (lineage_of r.phase) old.unnamed;
-      idle = old.idle;
-      items = λ q lives is. items_beside v row sound has_row r has unlike some (v.records q) (old.items q lives is);
-      target = members_beside v row sound has_row r has unlike some (lineage_of r.phase) old.target;
-      handed_on = old.handed_on;
-      named_items = named_beside v row sound has_row r has unlike some (lineage_of r.phase) old.named_items;
-      rebuilt =
-          subst
-          (λ (t : List Entry).
-          RowIsRebuilt r r.phase t v.logs now.written v.stored v.handovers v.completions v.gathers v.merged v.records v.live)
-          (sym (truth_as r has unlike)) (rebuilt_beside v row sound has_row r has unlike some (truths v r) r.phase old.rebuilt);
-      marks = λ q. marks_beside v row sound has_row r has unlike some q (old.marks q);
-      pieces = λ q. pieces_beside v row sound has_row r has unlike some q (old.pieces q);
-      says = λ n m there. says_beside v row sound has_row r has unlike some m.from m.to m.body (old.says n m there);
+      order = (history r has unlike).above;
+      calls = record {
+        reached = (history r has unlike).ends;
+        recorded = (history r has unlike).known;
+        moving = rw target_as (IfSome_then (target_truth v.written v.handed r r.phase) old.calls.moving (tell_more r has unlike));
+        answering = λ q counting says. reach_more r has unlike (ends_of (v.completions q r.tablet)) (old.calls.answering q counting says);
+        granted =
+            IfSome_then (handed_for_grant r v.handovers v.handed) old.calls.granted (λ h over. hand_more r has unlike h.ends over);
+        sent = λ n m there.
+            IfSome_then (handed_by r v.handovers m.body) (old.calls.sent n m there) (λ h over. hand_more r has unlike h.ends over);
+      };
+      counters = record {
+        low = (history r has unlike).low;
+        moving = rw target_as (IfSome_then (target_truth v.written v.handed r r.phase) old.counters.moving (above_more r has unlike));
+        counted = λ q counting says. next_as r has unlike (v.handovers q r.tablet).counter (old.counters.counted q counting says);
+        granted =
+            IfSome_then (handed_for_grant r v.handovers v.handed) old.counters.granted (λ h next. next_as r has unlike h.floor next);
+        sent = λ n m there.
+            IfSome_then (handed_by r v.handovers m.body) (old.counters.sent n m there) (λ h next. next_as r has unlike h.floor next);
+      };
+      rest = record {
+        goes_on = (history r has unlike).goes_on;
+        done = done_beside v row sound has_row r has unlike some (lineage_of r.phase) old.rest.done;
+        unnamed = unnamed_as r (lineage_of r.phase) old.rest.unnamed;
+        idle = old.rest.idle;
+      };
+      tables = λ q lives is. items_beside v row sound has_row r has unlike some (v.records q) (old.tables q lives is);
+      receives = record {
+        target = members_beside v row sound has_row r has unlike some (lineage_of r.phase) old.receives.target;
+        handed_on = old.receives.handed_on;
+        named = named_beside v row sound has_row r has unlike some (lineage_of r.phase) old.receives.named;
+      };
+      rebuilds = record {
+        rebuilt =
+            subst
+            (λ (t : List Entry).
+            RowIsRebuilt r r.phase t v.logs now.written v.stored v.handovers v.completions v.gathers v.merged v.records v.live)
+            (sym (truth_as r has unlike)) (rebuilt_beside v row sound has_row r has unlike some (truths v r) r.phase old.rebuilds.rebuilt);
+        marks = λ q. marks_beside v row sound has_row r has unlike some q (old.rebuilds.marks q);
+        pieces = λ q. pieces_beside v row sound has_row r has unlike some q (old.rebuilds.pieces q);
+      };
+      messages = λ n m there. says_beside v row sound has_row r has unlike some m.from m.to m.body (old.messages n m there);
     }
 
   beside : SoundBeside now

@@ -50,7 +50,7 @@ module _ (v : View) (row : Row) (source sfrom target dfrom : ℕ) (given : Hande
   -- ---- the source has applied all
 
   done : IsDone v.written row.range first
-  done = done_settled v.written row.range first some (row_was.idle source (inr may.term_is) (ap is_idle may.frozen))
+  done = done_settled v.written row.range first some (row_was.rest.idle source (inr may.term_is) (ap is_idle may.frozen))
 
   -- ---- truth and rest are what they were
 
@@ -100,7 +100,7 @@ module _ (v : View) (row : Row) (source sfrom target dfrom : ℕ) (given : Hande
   full : (q : ℕ) → v.live q ≡ true → has_all_items (post_of moving q) (v.handovers q row.tablet) row.term ≡ true → HasItems new v.written (v.records q)
   full q lives has =
       in_phase (λ p. IfSome (first_of (lineage_of p)) (λ m. IsTableOf row.range (member_truth v.written row.range m) (v.records q)))
-      (row_was.items q lives
+      (row_was.tables q lives
       (ap (λ (p : Phase). has_all_items (post_of p q) (v.handovers q row.tablet) row.term) may.phase_is
       ∙ full_by (v.handovers q row.tablet) (eqb source q) (eqb target q) has))
 
@@ -114,7 +114,7 @@ module _ (v : View) (row : Row) (source sfrom target dfrom : ℕ) (given : Hande
     placed =
         All-cons (IsPlaced v.written) first (last ∷ [])
         (All-head (IsPlaced v.written) first []
-        (in_phase (λ p. All (IsPlaced v.written) (lineage_of p)) row_was.placed))
+        (in_phase (λ p. All (IsPlaced v.written) (lineage_of p)) row_was.rows.placed))
         (All-cons (IsPlaced v.written) last [] bare.placed (All-nil (IsPlaced v.written)));
     done = done;
     unnamed = tt;
@@ -143,7 +143,7 @@ module _ (v : View) (row : Row) (source sfrom target dfrom : ℕ) (given : Hande
   low : AreAboveMap row.range (map_after (base_map v.base) v.journal) (beginning_in new given ∷ [])
   low table key inside =
       let below =
-      row_was.low table key inside in
+      row_was.counters.low table key inside in
       let fewer : floor_of (of_key table key (truths v row)) ≤ floor_of (truths v row ++ rests v row) =
       floor_among (of_key table key (truths v row)) (truths v row ++ rests v row)
       (λ entry stands. kept_stands table key (truths v row) (rests v row) entry stands) in

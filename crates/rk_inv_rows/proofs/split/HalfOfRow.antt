@@ -452,22 +452,22 @@ module _ (v : View) (sound : SoundView v) (row half : Row) (has : Contains v.row
       (λ i.
       (sym (ap items_of truths_half ∙ items_kept half.range (truths v row)) i, sym (ap items_of rests_half ∙ items_kept half.range (rests v row)) i))
       (above_kept (is_in half.range) (items_of (truths v row)) (items_of (rests v row))
-      (row_in v sound row has).above)
+      (row_in v sound row has).order)
 
   pub reached_of_half : TellAll half.range v.journal (truths v half)
   reached_of_half =
       rw truths_half (tells_half row.range half.range is v.journal (truths v row) counted
-      (row_in v sound row has).reached)
+      (row_in v sound row has).calls.reached)
 
   pub recorded_of_half : All (IsKnown v.base v.journal) (told (truths v half))
   recorded_of_half =
       rw truths_half (told_kept (IsKnown v.base v.journal) half.range (truths v row)
-      (row_in v sound row has).recorded)
+      (row_in v sound row has).calls.recorded)
 
   pub low_of_half : AreAboveMap half.range (map_after (base_map v.base) v.journal) (truths v half)
   low_of_half =
       rw truths_half (above_half row.range half.range is (map_after (base_map v.base) v.journal) (truths v row) counted
-      (row_in v sound row has).low)
+      (row_in v sound row has).counters.low)
 
   -- a number that is next for the row is next for the half
   pub next_of_half : (number : ℕ) → IsNext (truths v row ++ rests v row) number → IsNext (truths v half ++ rests v half) number
@@ -479,7 +479,7 @@ module _ (v : View) (sound : SoundView v) (row half : Row) (has : Contains v.row
   rest_of_half =
       subst (λ (p : List Entry × List Entry). IsRest v.base half.range p.0 p.1 v.journal v.asked) (λ i. (sym truths_half i, sym rests_half i))
       (rest_half row.range half.range is v.base (truths v row) (rests v row) v.journal v.asked
-      (row_in v sound row has).goes_on)
+      (row_in v sound row has).rest.goes_on)
 
   -- records that have the newest items of the row have those of the half
   pub table_of_half : (records : List Held) → IsTableOf row.range (member_truth v.written row.range own) records → IsTableOf half.range (member_truth v.written half.range own) records

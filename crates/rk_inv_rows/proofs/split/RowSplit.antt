@@ -216,7 +216,7 @@ module _ (v : View) (cut : Splitting v) (after : Halved v cut) where
   unnamed_half half is =
       let w : Written = v.written owner in
       let list : List Entry = drop (max from w.applied) w.entries in
-      let none : filter (is_joined_in range) list ≡ [] = (split_row v cut).unnamed in
+      let none : filter (is_joined_in range) list ≡ [] = (split_row v cut).rest.unnamed in
       filter_finer (is_joined_in half) (is_joined_in range) list
       (all_by _ list (λ entry _. joined_row half is entry))
       ∙ ap (filter (is_joined_in half)) none
@@ -267,7 +267,7 @@ module _ (v : View) (cut : Splitting v) (after : Halved v cut) where
       go : (b : Bool) → eqb owner q ≡ b → has_all_items (cond b (Owner from) Bystander) h (term + 1) ≡ true → IsTableOf half.range (own_truth half.range) (v.records q)
       go true e has_all =
           table_of_half v sound (row v cut) half has_row owner from refl phase is (v.records q)
-          ((split_row v cut).items q lives
+          ((split_row v cut).tables q lives
           (ap (λ (b : Bool). has_all_items (cond b (Owner from) Bystander) (v.handovers q tablet) term) e))
       go false e has_all = absurd (false≢true has_all)
 
@@ -381,61 +381,67 @@ module _ (v : View) (cut : Splitting v) (after : Halved v cut) where
 
     half_holds : ((i : ℕ) (m : Message) → get v.wire i ≡ Some m → SentFits half m.body) → ((i : ℕ) (m : Message) → get v.wire i ≡ Some m → IfSome (tenure_in m.body) (SpokeOf v cut after n r is_half which)) → SoundRow now half
     half_holds sent spoke = record {
-      named = was.named;
-      begun = omega arith;
-      formed = tt;
-      placed = was.placed;
-      sent = sent;
-      fitting = λ q.
-          by_half (λ post h. Holds (bond_of post h.role) (term + 1) h.term (v.written q).applied) q (λ _. refl) (away_fits q);
-      ranged = λ q counts inside.
-          by_half (λ post h. h.range ≡ r) q (λ _. refl) (λ lives away. absurd (no_owner v cut q away inside)) counts;
-      at_term = tt;
+      nodes = was.nodes;
+      rows = record { begun = omega arith; formed = tt; placed = was.rows.placed };
+      terms = sent;
+      roles = record {
+        fitting = λ q.
+            by_half (λ post h. Holds (bond_of post h.role) (term + 1) h.term (v.written q).applied) q (λ _. refl) (away_fits q);
+        ranged = λ q counts inside.
+            by_half (λ post h. h.range ≡ r) q (λ _. refl) (λ lives away. absurd (no_owner v cut q away inside)) counts;
+        at_term = tt;
+      };
       truth = truth_of_half v sound (row v cut) half has_row owner from refl refl is_half;
-      above = order_of_half v sound (row v cut) half has_row owner from refl refl is_half;
-      reached = reached_of_half v sound (row v cut) half has_row owner from refl refl is_half;
-      recorded = recorded_of_half v sound (row v cut) half has_row owner from refl refl is_half;
-      moving = tt;
-      answering = λ q.
-          by_half (λ post h. speaks post h (term + 1) ≡ true → ReachAll r v.journal (ends_of (completions' q n))) q
-          (λ serves says. reached_half r is_half (ends_of (completions' q n)) (owner_answers_now q n serves which))
-          (λ lives away says. absurd (false≢true (sym (silent q lives away) ∙ says)));
-      ends_granted = tt;
-      ends_sent = λ i m there. rw (none_for_owned n (term + 1) r owner from handovers' m.body) tt;
-      low = low_of_half v sound (row v cut) half has_row owner from refl refl is_half;
-      low_moving = tt;
-      counted = λ q.
-          by_half (λ post h. speaks post h (term + 1) ≡ true → IsNextOf v half h.counter) q
-          (λ serves says.
-          next_of_half v sound (row v cut) half has_row owner from refl refl is_half (v.handovers q tablet).counter (owner_next q serves))
-          (λ lives away says. absurd (false≢true (sym (silent q lives away) ∙ says)));
-      floor_granted = tt;
-      floor_sent = λ i m there. rw (none_for_owned n (term + 1) r owner from handovers' m.body) tt;
-      goes_on = rest_of_half v sound (row v cut) half has_row owner from refl refl is_half;
-      done = tt;
-      unnamed = unnamed_half r is_half;
-      idle = λ q.
-          by_half (λ post h. is_idle h.role ≡ true → list_any (touches r) (drop (v.written q).applied (v.written q).entries) ≡ false) q
-          (λ _ idles. absurd (false≢true idles)) (λ lives away idles. idle_half r is_half q lives away);
-      items = λ q lives. table_of_owner half refl is_half q lives (handovers' q n);
-      target = tt;
-      handed_on = tt;
-      named_items = tt;
-      rebuilt = tt;
-      marks = λ q. no_mark v cut after (MarkFits half q (handovers' q n) (v.live q) (v.written q)) q n which;
-      pieces = λ q. no_mark v cut after (HasOwnRange r (v.written q).entries) q n which;
-      says = λ i m there. says_half v cut after n r is_half which m.from m.to m.body (spoke i m there) (was.says i m there);
+      order = order_of_half v sound (row v cut) half has_row owner from refl refl is_half;
+      calls = record {
+        reached = reached_of_half v sound (row v cut) half has_row owner from refl refl is_half;
+        recorded = recorded_of_half v sound (row v cut) half has_row owner from refl refl is_half;
+        moving = tt;
+        answering = λ q.
+            by_half (λ post h. speaks post h (term + 1) ≡ true → ReachAll r v.journal (ends_of (completions' q n))) q
+            (λ serves says. reached_half r is_half (ends_of (completions' q n)) (owner_answers_now q n serves which))
+            (λ lives away says. absurd (false≢true (sym (silent q lives away) ∙ says)));
+        granted = tt;
+        sent = λ i m there. rw (none_for_owned n (term + 1) r owner from handovers' m.body) tt;
+      };
+      counters = record {
+        low = low_of_half v sound (row v cut) half has_row owner from refl refl is_half;
+        moving = tt;
+        counted = λ q.
+            by_half (λ post h. speaks post h (term + 1) ≡ true → IsNextOf v half h.counter) q
+            (λ serves says.
+            next_of_half v sound (row v cut) half has_row owner from refl refl is_half (v.handovers q tablet).counter (owner_next q serves))
+            (λ lives away says. absurd (false≢true (sym (silent q lives away) ∙ says)));
+        granted = tt;
+        sent = λ i m there. rw (none_for_owned n (term + 1) r owner from handovers' m.body) tt;
+      };
+      rest = record {
+        goes_on = rest_of_half v sound (row v cut) half has_row owner from refl refl is_half;
+        done = tt;
+        unnamed = unnamed_half r is_half;
+        idle = λ q.
+            by_half (λ post h. is_idle h.role ≡ true → list_any (touches r) (drop (v.written q).applied (v.written q).entries) ≡ false) q
+            (λ _ idles. absurd (false≢true idles)) (λ lives away idles. idle_half r is_half q lives away);
+      };
+      tables = λ q lives. table_of_owner half refl is_half q lives (handovers' q n);
+      receives = record { target = tt; handed_on = tt; named = tt };
+      rebuilds = record {
+        rebuilt = tt;
+        marks = λ q. no_mark v cut after (MarkFits half q (handovers' q n) (v.live q) (v.written q)) q n which;
+        pieces = λ q. no_mark v cut after (HasOwnRange r (v.written q).entries) q n which;
+      };
+      messages = λ i m there. says_half v cut after n r is_half which m.from m.to m.body (spoke i m there) (was.messages i m there);
     }
 
   low_holds : SoundRow now (low v cut)
   low_holds =
-      half_holds tablet (low v cut).range (low_half v cut) (inl refl) by_low low_away (λ i m there. sent_low m.body (was.sent i m there))
-      (λ i m there. IfSome_then (tenure_in m.body) (was.sent i m there).within (λ tenure few its. (its, refl, few (sym its))))
+      half_holds tablet (low v cut).range (low_half v cut) (inl refl) by_low low_away (λ i m there. sent_low m.body (was.terms i m there))
+      (λ i m there. IfSome_then (tenure_in m.body) (was.terms i m there).within (λ tenure few its. (its, refl, few (sym its))))
 
   high_holds : SoundRow now (high v cut)
   high_holds =
       half_holds new (high v cut).range (high_half v cut) (inr refl) by_high high_away
-      (λ i m there. sent_high m.body (sound.cover.sent i m there) (was.sent i m there))
+      (λ i m there. sent_high m.body (sound.cover.sent i m there) (was.terms i m there))
       (λ i m there. IfSome_then (tenure_in m.body) (sound.cover.sent i m there) (λ tenure known its. absurd (unknown_new v cut tenure.tablet known its)))
 
   -- of each other row masters have what they had

@@ -117,7 +117,7 @@ module _ (w : World) (cut : Splitting (view w)) where
     serves q is = (ap v.live is ∙ lives_on, is)
 
     kept_range : (tablet_in w owner tablet).handover.range ≡ range
-    kept_range = (split_row v cut).ranged owner (inl lives_on) (or_left (eqb owner owner) false (eq-eqb owner owner refl))
+    kept_range = (split_row v cut).roles.ranged owner (inl lives_on) (or_left (eqb owner owner) false (eq-eqb owner owner refl))
 
     abbrev HasNow : ℕ → ℕ → Type 0
     HasNow q n = Has v cut q n ((view after).handovers q n)

@@ -252,7 +252,7 @@ module _ (v : View) (sound : SoundView v) (readable : AreReadable v.logs v.writt
       named_first : NamedFit v.written row.range both
       named_first =
           subst (λ (phase : Phase). NamedFit v.written row.range (lineage_of phase)) is
-          (row_in v sound row has).named_items
+          (row_in v sound row has).receives.named
 
       sides_of_last : All (IsToldBy others) (sides last)
       sides_of_last =

@@ -15,7 +15,7 @@ use Rattle.rk_transfer.specs.declared.role.Role.TheVariants as roles
 pub member_backed : (v : View) → SoundView v → (row : Row) → Contains v.rows row → (lineage : List Member) (to : ℕ) → row.phase ≡ Rebuilding lineage to → (q : ℕ) → is_member lineage q ≡ true → IsBackup (v.logs q) READ_BACKUP
 member_backed v sound row has lineage to is q member =
     let there : IsMaster v.masters q =
-    (row_in v sound row has).named q (ap (λ (phase : Phase). names phase q) is ∙ or_right (to == q) (is_member lineage q) member) in
+    (row_in v sound row has).nodes q (ap (λ (phase : Phase). names phase q) is ∙ or_right (to == q) (is_member lineage q) member) in
     record { first = omega arith; last = omega (arith, sound.nodes.known q there, sound.nodes.backed) }
 
 -- a role that has merged has the place of the entry that closes it
@@ -45,7 +45,7 @@ module _ (v : View) (row : Row) (lineage : List Member) (q : ℕ) (sound : Sound
   pub rebuilt : RowIsRebuilt row (Rebuilding lineage q) (truths v row) v.logs v.written v.stored v.handovers v.completions v.gathers v.merged v.records v.live
   rebuilt =
       subst (λ (p : Phase). RowIsRebuilt row p (truths v row) v.logs v.written v.stored v.handovers v.completions v.gathers v.merged v.records v.live) is
-      (row_in v sound row has).rebuilt
+      (row_in v sound row has).rebuilds.rebuilt
 
   module _ (others : List Entry) (tells : (v.handovers q row.tablet).term ≡ row.term → has_merged (v.handovers q row.tablet).role ≡ true → TellNoMore (read_all read) others) where
     -- an entry that bears a mark of the row's is of the piece

@@ -26,7 +26,7 @@ module _ (v : View) (sound : SoundView v) (q : ℕ) (place : ℕ) (entry : Entry
       let number : of.tablet ≡ found.mark.tablet = number_of v.rows found.mark.tablet of there.1 in
       let each : HasOwnRange of.range list found.mark =
       All-contains (λ (mark : Mark). mark.tablet ≡ of.tablet → HasOwnRange of.range list mark) marks found.mark
-      ((row_in v sound of stands).pieces q)
+      ((row_in v sound of stands).rebuilds.pieces q)
       found.here (sym number) in
       record {
         row = of;

@@ -178,7 +178,7 @@ module _ (v : View) (a : Granting v) where
       of_tablet v (now v a) (master v a) a.row.tablet (tablet v a) (turned v a)
       (λ q r t. StillCounts (v.live q) t.handover.term a.row.term → speaks (post_of a.row.phase q) t.handover a.row.term ≡ true
       → ReachAll a.row.range v.journal (ends_of t.completions))
-      q a.row.tablet (λ counts says. rw kept given.reached) (λ apart. (row_was v a).answering q)
+      q a.row.tablet (λ counts says. rw kept given.reached) (λ apart. (row_was v a).calls.answering q)
 
   -- only the target counts
   pub counts_on : (q : ℕ) → CountsFor (now v a) a.row q → SpeaksFor (now v a) a.row q → IsNext (truths v a.row ++ rests (now v a) a.row) ((now v a).handovers q a.row.tablet).counter
@@ -198,7 +198,7 @@ module _ (v : View) (a : Granting v) where
       (λ apart counts says.
       absurd
       (apart
-      (speaker_is a.row q (v.handovers q a.row.tablet) (v.written q).applied ((row_was v a).fitting q counts) says ∙ sym (taker v a).speaks) refl))
+      (speaker_is a.row q (v.handovers q a.row.tablet) (v.written q).applied ((row_was v a).roles.fitting q counts) says ∙ sym (taker v a).speaks) refl))
 
   -- ---- the target begins
 
@@ -240,7 +240,7 @@ module _ (v : View) (a : Granting v) where
   pub names_here : NamedFit written a.row.range (lineage_of a.row.phase)
   names_here =
       let was : NamedFit v.written a.row.range (a.source ∷ a.target ∷ []) =
-      subst (NamedFit v.written a.row.range) a.may.may.lineage_is (row_was v a).named_items in
+      subst (NamedFit v.written a.row.range) a.may.may.lineage_is (row_was v a).receives.named in
       rw a.may.may.lineage_is (λ item there.
       rw (truth_same v (grow v a) a.row.range a.source) (was item
       (rw (← (of_written v a
@@ -271,10 +271,10 @@ module _ (v : View) (a : Granting v) where
       (all_by
       (λ mark. mark.tablet ≡ a.row.tablet → MarkFits a.row (master v a) (tablet v a).handover (v.live (master v a)) (v.written (master v a)) mark)
       (v.written (master v a)).marks (λ mark there its. absurd (none_marked (master v a) mark refl there its)))
-      (λ apart. (row_was v a).marks q))
+      (λ apart. (row_was v a).rebuilds.marks q))
 
   pub pieces_here : (q : ℕ) → All (λ mark. mark.tablet ≡ a.row.tablet → HasOwnRange a.row.range (written q).entries mark) (written q).marks
-  pieces_here q = marked_by (λ w mark. HasOwnRange a.row.range w.entries mark) q ((row_was v a).pieces q)
+  pieces_here q = marked_by (λ w mark. HasOwnRange a.row.range w.entries mark) q ((row_was v a).rebuilds.pieces q)
 
   -- ---- masters that rebuild
 
@@ -313,17 +313,17 @@ module _ (v : View) (a : Granting v) where
       let fitting : (q : ℕ) → CountsFor (now v a) a.row q → RoleFits a.row q ((now v a).handovers q a.row.tablet) (written q).applied = λ q.
       of_tablet v (now v a) (master v a) a.row.tablet (tablet v a) (turned v a)
       (λ q r t. StillCounts (v.live q) t.handover.term a.row.term → RoleFits a.row q t.handover (written q).applied) q a.row.tablet
-      (λ counts. rw (applied_same v a (master v a)) (taker v a).fits) (λ apart counts. rw (applied_same v a q) (was.fitting q counts)) in
+      (λ counts. rw (applied_same v a (master v a)) (taker v a).fits) (λ apart counts. rw (applied_same v a q) (was.roles.fitting q counts)) in
       let ranged : (q : ℕ) → CountsFor (now v a) a.row q → is_member (lineage_of a.row.phase) q ≡ true → ((now v a).handovers q a.row.tablet).range ≡ a.row.range = λ q.
       of_handover v a
       (λ h. StillCounts (v.live q) h.term a.row.term → is_member (lineage_of a.row.phase) q ≡ true → h.range ≡ a.row.range) q a.row.tablet
-      (λ at its. was.ranged q) (λ apart. was.ranged q) in
+      (λ at its. was.roles.ranged q) (λ apart. was.roles.ranged q) in
       let above : AreAbove (items_of (truths (now v a) a.row)) (items_of (rests (now v a) a.row)) =
       rw (truths_now, rest_here v a, flat_map-append items_in (rests v a.row) (entry v a ∷ []) ∙ append-nil (items_of (rests v a.row)))
-      was.above in
+      was.order in
       let goes_on : IsRest v.base a.row.range (truths (now v a) a.row) (rests (now v a) a.row) v.journal v.asked =
       rw (truths_now, rest_here v a)
-      (carried_rest v.base a.row.range (truths v a.row) (rests v a.row) v.journal v.asked _ given.known was.goes_on) in
+      (carried_rest v.base a.row.range (truths v a.row) (rests v a.row) v.journal v.asked _ given.known was.rest.goes_on) in
       let counted : (q : ℕ) → CountsFor (now v a) a.row q → SpeaksFor (now v a) a.row q → IsNextOf (now v a) a.row ((now v a).handovers q a.row.tablet).counter = λ q counts says.
       rw truths_now (counts_on q counts says) in
       let none_granted : (P : Handed → Type 0) → IfSome (handed_for_grant a.row (now v a).handovers v.handed) P = λ P. rw none_kept tt in
@@ -333,34 +333,34 @@ module _ (v : View) (a : Granting v) where
       of_handover v a
       (λ h. StillCounts (v.live q) h.term a.row.term → is_idle h.role ≡ true → IsSettledIn a.row.range (written q)) q a.row.tablet
       (λ at its counts idles. absurd (false≢true idles))
-      (λ apart counts idles. rw ((grow v a).others q (λ at. apart at refl)) (was.idle q counts idles)) in
+      (λ apart counts idles. rw ((grow v a).others q (λ at. apart at refl)) (was.rest.idle q counts idles)) in
       assumption (
         was,
-        placed_more v (grow v a) (lineage_of a.row.phase) was.placed,
+        placed_more v (grow v a) (lineage_of a.row.phase) was.rows.placed,
         terms_look a.row.phase (λ q. (v.handovers q a.row.tablet).term) (λ q. ((now v a).handovers q a.row.tablet).term) a.row.term
-            (λ q. same_term v a q a.row.tablet) was.at_term,
+            (λ q. same_term v a q a.row.tablet) was.roles.at_term,
         rw (← truths_now) at was.truth,
-        rw (← truths_now) at was.reached,
-        rw (← truths_now) at was.recorded,
-        rw (← target_now) at was.moving,
-        rw (← truths_now) at was.low,
-        rw (← target_now) at was.low_moving,
+        rw (← truths_now) at was.calls.reached,
+        rw (← truths_now) at was.calls.recorded,
+        rw (← target_now) at was.calls.moving,
+        rw (← truths_now) at was.counters.low,
+        rw (← target_now) at was.counters.moving,
         answers,
         none_granted (λ h. AreHandedOver v.base a.row.range v.journal h.ends),
         none_told (λ h. AreHandedOver v.base a.row.range v.journal h.ends),
         none_granted (λ h. IsNextOf (now v a) a.row h.floor),
         none_told (λ h. IsNextOf (now v a) a.row h.floor),
-        done_more v (grow v a) a.row.range (lineage_of a.row.phase) first_same was.done,
-        unnamed_more v (grow v a) a.row.range (lineage_of a.row.phase) was.unnamed,
-        items_more v (grow v a) a.row (now v a).handovers (λ q. same_term v a q a.row.tablet) was.items,
+        done_more v (grow v a) a.row.range (lineage_of a.row.phase) first_same was.rest.done,
+        unnamed_more v (grow v a) a.row.range (lineage_of a.row.phase) was.rest.unnamed,
+        items_more v (grow v a) a.row (now v a).handovers (λ q. same_term v a q a.row.tablet) was.tables,
         members_here,
         handed_here,
         names_here,
-        rw (← truths_now) at (rebuilt_here a.row.phase refl was.rebuilt),
+        rw (← truths_now) at (rebuilt_here a.row.phase refl was.rebuilds.rebuilt),
         marks_here,
         pieces_here,
         λ (n : ℕ) (m : Message) (there : get v.wire n ≡ Some m).
-            says_here v a m.from m.to m.body (says_more v (grow v a) a.row a.may.may.has_row m.from m.to m.body (was.says n m there)),
+            says_here v a m.from m.to m.body (says_more v (grow v a) a.row a.may.may.has_row m.from m.to m.body (was.messages n m there)),
       )
 
   -- ---- beside rows

@@ -124,7 +124,7 @@ module _ (v : View) (a : Granting v) where
 
   -- nor anything that is not applied
   pub settled : list_any (touches a.row.range) (drop (v.written master).applied (v.written master).entries) ≡ false
-  settled = row_was.idle master (inl a.may.may.lives) (ap is_idle a.may.may.waiting)
+  settled = row_was.rest.idle master (inl a.may.may.lives) (ap is_idle a.may.may.waiting)
 
   -- ---- the log
 

@@ -363,37 +363,37 @@ module _ (v : View) (grow : Growing v) where
     pub row_more : SoundRow v x → SoundRow grown x
     row_more was =
         let counted : (q : ℕ) → CountsFor v x q → SpeaksFor v x q → IsNextOf grown x (v.handovers q x.tablet).counter = λ q counts says.
-        rw both_same (was.counted q counts says) in
+        rw both_same (was.counters.counted q counts says) in
         let floor_sent : EachIn (λ n m. IfSome (handed_by x v.handovers m.body) (λ h. IsNextOf grown x h.floor)) v.wire = λ n m there.
-        IfSome_then (handed_by x v.handovers m.body) (was.floor_sent n m there) (λ h next. rw both_same next) in
+        IfSome_then (handed_by x v.handovers m.body) (was.counters.sent n m there) (λ h next. rw both_same next) in
         let floor_granted : IfSome (handed_for_grant x v.handovers v.handed) (λ h. IsNextOf grown x h.floor) =
-        IfSome_then (handed_for_grant x v.handovers v.handed) was.floor_granted (λ h next. rw both_same next) in
+        IfSome_then (handed_for_grant x v.handovers v.handed) was.counters.granted (λ h next. rw both_same next) in
         assumption (
-          placed_more (lineage_of x.phase) was.placed,
-          items_more x v.handovers (λ q. refl) was.items,
-          λ (q : ℕ) (counts : CountsFor v x q). rw (← (grow.more q).applied) at (was.fitting q counts),
+          placed_more (lineage_of x.phase) was.rows.placed,
+          items_more x v.handovers (λ q. refl) was.tables,
+          λ (q : ℕ) (counts : CountsFor v x q). rw (← (grow.more q).applied) at (was.roles.fitting q counts),
           rw (← truths_same x) at was.truth,
-          rw (← truths_same x, ← rests_same) at was.above,
-          rw (← truths_same x) at was.reached,
-          rw (← truths_same x) at was.recorded,
-          rw (← target_same x) at was.moving,
-          rw (← truths_same x) at was.low,
-          rw (← target_same x) at was.low_moving,
-          rw (← truths_same x, ← rests_same) at was.goes_on,
-          done_more x.range (lineage_of x.phase) first_same was.done,
-          unnamed_more x.range (lineage_of x.phase) was.unnamed,
+          rw (← truths_same x, ← rests_same) at was.order,
+          rw (← truths_same x) at was.calls.reached,
+          rw (← truths_same x) at was.calls.recorded,
+          rw (← target_same x) at was.calls.moving,
+          rw (← truths_same x) at was.counters.low,
+          rw (← target_same x) at was.counters.moving,
+          rw (← truths_same x, ← rests_same) at was.rest.goes_on,
+          done_more x.range (lineage_of x.phase) first_same was.rest.done,
+          unnamed_more x.range (lineage_of x.phase) was.rest.unnamed,
           λ (q : ℕ) (counts : CountsFor v x q) (idles : is_idle (v.handovers q x.tablet).role ≡ true).
-              rw (← (grow.more q).applied) at ((near q).touched (v.written q).applied (was.idle q counts idles)),
-          members_more (lineage_of x.phase) was.placed was.target,
-          names_more (lineage_of x.phase) was.named_items,
-          rw (← truths_same x) at (rebuilt_more x.phase refl was.rebuilt),
+              rw (← (grow.more q).applied) at ((near q).touched (v.written q).applied (was.rest.idle q counts idles)),
+          members_more (lineage_of x.phase) was.rows.placed was.receives.target,
+          names_more (lineage_of x.phase) was.receives.named,
+          rw (← truths_same x) at (rebuilt_more x.phase refl was.rebuilds.rebuilt),
           λ (q : ℕ).
               marks_apart x q (MarkFits x q (v.handovers q x.tablet) (v.live q) (v.written q)) (MarkFits x q (v.handovers q x.tablet) (v.live q) (written q))
-              apart (λ mark there fit. fits_more x q mark (near q) fit) (was.marks q),
+              apart (λ mark there fit. fits_more x q mark (near q) fit) (was.rebuilds.marks q),
           λ (q : ℕ).
               marks_apart x q (HasOwnRange x.range (v.written q).entries) (HasOwnRange x.range (written q).entries) apart
-              (λ mark there own. own_range_more x.range q mark there own) (was.pieces q),
-          λ (n : ℕ) (m : Message) (there : get v.wire n ≡ Some m). says_more x has m.from m.to m.body (was.says n m there),
+              (λ mark there own. own_range_more x.range q mark there own) (was.rebuilds.pieces q),
+          λ (n : ℕ) (m : Message) (there : get v.wire n ≡ Some m). says_more x has m.from m.to m.body (was.messages n m there),
         )
 
   -- what is said of rows holds of each row, if it holds of this one and masters have of each other tablet what they had

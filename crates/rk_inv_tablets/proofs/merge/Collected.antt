@@ -219,7 +219,7 @@ module _ (v : View) (a : Merging v) where
   gather = v.gathers a.master a.row.tablet
 
   formed : AreApart lineage
-  formed = subst IsFormed (rebuilt v a).1 (row_in v a.sound a.row a.has_row).formed
+  formed = subst IsFormed (rebuilt v a).1 (row_in v a.sound a.row a.has_row).rows.formed
 
   same_lineage : lineage_of a.row.phase ≡ lineage
   same_lineage = ap lineage_of (rebuilt v a).1
@@ -301,9 +301,9 @@ module _ (v : View) (a : Merging v) where
   row_told : (end : Ended) → Contains (told all) end → IsToldIn v a.row end
   row_told end at =
       rw same_lineage (material_told v.base v.written a.row.range lineage formed
-      (rw (← same_lineage) (row_in v a.sound a.row a.has_row).done)
-      (rw (← same_lineage) (row_in v a.sound a.row a.has_row).unnamed)
-      (rw (← same_lineage) (row_in v a.sound a.row a.has_row).named_items) end at)
+      (rw (← same_lineage) (row_in v a.sound a.row a.has_row).rest.done)
+      (rw (← same_lineage) (row_in v a.sound a.row a.has_row).rest.unnamed)
+      (rw (← same_lineage) (row_in v a.sound a.row a.has_row).receives.named) end at)
 
   -- so each end that the rebuild merges is recorded by the row's truth or its rest
   pub collected : All (IsToldIn v a.row) (ends_of (completions_from [] (merged v a).ends))

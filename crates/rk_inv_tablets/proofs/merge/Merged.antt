@@ -58,7 +58,7 @@ module _ (v : View) (a : Merging v) where
         of_rows = λ n m there.
             All-cons (λ x. SaysIn kept x m.from m.to m.body) a.row []
             (says_kept m.from m.to m.body
-            (says_more v (grow v a) a.row a.has_row m.from m.to m.body ((row_was v a).says n m there)))
+            (says_more v (grow v a) a.row a.has_row m.from m.to m.body ((row_was v a).messages n m there)))
             (All-nil _);
         others = a.sound.messages.others;
       })).of_rows n m there)
@@ -190,7 +190,7 @@ module _ (v : View) (a : Merging v) where
       (λ q r t. All (λ m. m.tablet ≡ a.row.tablet → MarkFits a.row q t.handover (v.live q) (v.written q) m) (v.written q).marks) q a.row.tablet
       (all_by (λ m. m.tablet ≡ a.row.tablet → MarkFits a.row a.master (new v a) (v.live a.master) (v.written a.master) m)
       (v.written a.master).marks (λ m stands same. absurd (unmarked v a m stands same)))
-      (λ apart. (row_was v a).marks q))
+      (λ apart. (row_was v a).rebuilds.marks q))
 
   pub pieces_here : (q : ℕ) → All (λ m. m.tablet ≡ a.row.tablet → HasOwnRange a.row.range (written q).entries m) (written q).marks
   pieces_here q =
@@ -203,7 +203,7 @@ module _ (v : View) (a : Merging v) where
       ∙ take_all ((mark v a).past - first v a) (piece v a) (omega (arith, size)) in
       rw whole (inside v a))
       (λ away. absurd (away refl)))
-      ((row_was v a).pieces q)
+      ((row_was v a).rebuilds.pieces q)
 
   -- ---- targets
 
@@ -261,7 +261,7 @@ module _ (v : View) (a : Merging v) where
       ⊎_elim
       (λ (at : Contains (told (truths v a.row)) end).
       inl (All-contains (IsKnown v.base v.journal) (told (truths v a.row)) end
-      (row_was v a).recorded at))
+      (row_was v a).calls.recorded at))
       (λ (at : Contains (told (rests v a.row)) end).
       inr (record {
         row = a.row;
@@ -292,7 +292,7 @@ module _ (v : View) (a : Merging v) where
       of_tablet v (now v a) a.master a.row.tablet (tablet v a) (turned v a)
       (λ q r t. StillCounts (v.live q) t.handover.term a.row.term → speaks (post_of a.row.phase q) t.handover a.row.term ≡ true
       → ReachAll a.row.range v.journal (ends_of t.completions))
-      q a.row.tablet (λ counts says. absurd (quiet says)) (λ apart. (row_was v a).answering q)
+      q a.row.tablet (λ counts says. absurd (quiet says)) (λ apart. (row_was v a).calls.answering q)
 
   pub counts_on : (q : ℕ) → CountsFor (now v a) a.row q → SpeaksFor (now v a) a.row q → IsNext (truths v a.row ++ rests v a.row) ((now v a).handovers q a.row.tablet).counter
   counts_on q = grind (arith, of_tablet, now, tablet, turned, speaks, post_of, truths, rests, quiet, row_was)
@@ -324,44 +324,44 @@ module _ (v : View) (a : Merging v) where
       rw both_now (counts_on q counts says) in
       let floor_granted : IfSome (handed_for_grant a.row (now v a).handovers v.handed) (λ h. IsNextOf (now v a) a.row h.floor) =
       rw (handed_for_grant_alike a.row v.handovers (now v a).handovers v.handed alike)
-      (IfSome_then (handed_for_grant a.row v.handovers v.handed) was.floor_granted (λ h next. rw both_now next)) in
+      (IfSome_then (handed_for_grant a.row v.handovers v.handed) was.counters.granted (λ h next. rw both_now next)) in
       let floor_sent : EachIn (λ n m. IfSome (handed_by a.row (now v a).handovers m.body) (λ h. IsNextOf (now v a) a.row h.floor)) v.wire = λ n m there.
       rw (handed_by_alike a.row v.handovers (now v a).handovers m.body alike)
-      (IfSome_then (handed_by a.row v.handovers m.body) (was.floor_sent n m there) (λ h next. rw both_now next)) in
+      (IfSome_then (handed_by a.row v.handovers m.body) (was.counters.sent n m there) (λ h next. rw both_now next)) in
       let idle : (q : ℕ) → CountsFor (now v a) a.row q → is_idle ((now v a).handovers q a.row.tablet).role ≡ true → IsSettledIn a.row.range (written q) = λ q.
       of_handover v a
       (λ h. StillCounts (v.live q) h.term a.row.term → is_idle h.role ≡ true → IsSettledIn a.row.range (written q)) q a.row.tablet
       (λ at its counts idles. absurd (false≢true idles))
-      (λ apart counts idles. rw ((grow v a).others q (λ at. apart at refl)) (was.idle q counts idles)) in
+      (λ apart counts idles. rw ((grow v a).others q (λ at. apart at refl)) (was.rest.idle q counts idles)) in
       assumption (
         was,
-        placed_more v (grow v a) (lineage_of a.row.phase) was.placed,
+        placed_more v (grow v a) (lineage_of a.row.phase) was.rows.placed,
         λ (q : ℕ) (counts : CountsFor (now v a) a.row q).
             role_looks a.row q (v.handovers q a.row.tablet) ((now v a).handovers q a.row.tablet) (v.written q).applied (written q).applied
-            (looks v a q a.row.tablet) (applied_same v a q) (was.fitting q (counts_same q counts)),
+            (looks v a q a.row.tablet) (applied_same v a q) (was.roles.fitting q (counts_same q counts)),
         λ (q : ℕ) (counts : CountsFor (now v a) a.row q) (member : is_member (lineage_of a.row.phase) q ≡ true).
-            (looks v a q a.row.tablet).range ∙ was.ranged q (counts_same q counts) member,
+            (looks v a q a.row.tablet).range ∙ was.roles.ranged q (counts_same q counts) member,
         terms_look a.row.phase (λ q. (v.handovers q a.row.tablet).term) (λ q. ((now v a).handovers q a.row.tablet).term) a.row.term
-            (λ q. (looks v a q a.row.tablet).term) was.at_term,
+            (λ q. (looks v a q a.row.tablet).term) was.roles.at_term,
         rw (← truths_now) at was.truth,
-        rw (← truths_now, ← rests_now) at was.above,
-        rw (← truths_now) at was.reached,
-        rw (← truths_now) at was.recorded,
-        rw (← target_now) at was.moving,
-        rw (← truths_now) at was.low,
-        rw (← target_now) at was.low_moving,
+        rw (← truths_now, ← rests_now) at was.order,
+        rw (← truths_now) at was.calls.reached,
+        rw (← truths_now) at was.calls.recorded,
+        rw (← target_now) at was.calls.moving,
+        rw (← truths_now) at was.counters.low,
+        rw (← target_now) at was.counters.moving,
         answers,
-        rw (← handed_for_grant_alike a.row v.handovers (now v a).handovers v.handed alike) at was.ends_granted,
+        rw (← handed_for_grant_alike a.row v.handovers (now v a).handovers v.handed alike) at was.calls.granted,
         λ (n : ℕ) (m : Message) (there : get v.wire n ≡ Some m).
-            rw (← handed_by_alike a.row v.handovers (now v a).handovers m.body alike) at (was.ends_sent n m there),
-        rw (← truths_now, ← rests_now) at was.goes_on,
-        done_more v (grow v a) a.row.range (lineage_of a.row.phase) first_same was.done,
-        unnamed_more v (grow v a) a.row.range (lineage_of a.row.phase) was.unnamed,
-        items_more v (grow v a) a.row (now v a).handovers (λ q. (looks v a q a.row.tablet).term) was.items,
-        members_here (lineage_of a.row.phase) was.target,
-        handed_here (lineage_of a.row.phase) refl was.handed_on,
-        names_here (lineage_of a.row.phase) was.named_items,
-        rw (← truths_now) at (rebuilt_here a.row.phase refl was.rebuilt),
+            rw (← handed_by_alike a.row v.handovers (now v a).handovers m.body alike) at (was.calls.sent n m there),
+        rw (← truths_now, ← rests_now) at was.rest.goes_on,
+        done_more v (grow v a) a.row.range (lineage_of a.row.phase) first_same was.rest.done,
+        unnamed_more v (grow v a) a.row.range (lineage_of a.row.phase) was.rest.unnamed,
+        items_more v (grow v a) a.row (now v a).handovers (λ q. (looks v a q a.row.tablet).term) was.tables,
+        members_here (lineage_of a.row.phase) was.receives.target,
+        handed_here (lineage_of a.row.phase) refl was.receives.handed_on,
+        names_here (lineage_of a.row.phase) was.receives.named,
+        rw (← truths_now) at (rebuilt_here a.row.phase refl was.rebuilds.rebuilt),
         marks_here,
         pieces_here,
         says_here v a,

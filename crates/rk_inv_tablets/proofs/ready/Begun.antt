@@ -74,7 +74,7 @@ module _ (v : View) (row : Row) (master : ℕ) (lineage : List Member) (sound : 
   own = as_begun master (order_of row lineage) place (tablet_seen v master row.tablet)
 
   begins : MayBeginBy v row master sound has lives below lineage is (own_member lineage master)
-  begins = begins_by v row master sound has lives below lineage is (subst IsFormed is (row_in v sound row has).formed)
+  begins = begins_by v row master sound has lives below lineage is (subst IsFormed is (row_in v sound row has).rows.formed)
 
   order : MayTakeOrder v master row.tablet row.term row.range
   order = record {

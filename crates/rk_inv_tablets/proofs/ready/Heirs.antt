@@ -44,7 +44,7 @@ module _ (v : View) (row : Row) (master : ℕ) (sound : SoundView v) (has : Cont
   truths_are = ap (lineage_truth v.base v.written range) lineage_is
 
   pub old_fits : Holds (bond_of (rebuilder_post lineage master) old.role) row.term old.term w.applied
-  old_fits = rw (← post_is) ((row_in v sound row has).fitting master (inl lives))
+  old_fits = rw (← post_is) ((row_in v sound row has).roles.fitting master (inl lives))
 
   -- an item of a member's truth is of the row's
   member_in : (first : Member) (more : List Member) (m : Member) → lineage ≡ first ∷ more → Contains (first ∷ more) m → (item : Held) → Contains (items_of (member_truth v.written range m)) item → Contains (items_of (truths v row)) item
@@ -64,7 +64,7 @@ module _ (v : View) (row : Row) (master : ℕ) (sound : SoundView v) (has : Cont
   table_is : (first : Member) (more : List Member) → lineage ≡ first ∷ more → has_all_items (rebuilder_post lineage master) old row.term ≡ true → IsTableOf range (member_truth v.written range first) (v.records master)
   table_is first more shape all =
       let items : HasItems row v.written (v.records master) =
-      (row_in v sound row has).items master lives
+      (row_in v sound row has).tables master lives
       (ap (λ (post : Post). has_all_items post old row.term) post_is ∙ all) in
       subst (λ (members : List Member). IfSome (first_of members) (λ member. IsTableOf range (member_truth v.written range member) (v.records master)))
       (lineage_is ∙ shape) items
@@ -95,7 +95,7 @@ module _ (v : View) (row : Row) (master : ℕ) (sound : SoundView v) (has : Cont
       ap (λ (members : List Member). rebuilder_post members master) shape ∙ only_post only master here in
       let unnamed : OnlyIsUnnamed v.written range (only ∷ []) =
       subst (OnlyIsUnnamed v.written range) (lineage_is ∙ shape)
-      (row_in v sound row has).unnamed in
+      (row_in v sound row has).rest.unnamed in
       let none : joined_from range (max only.from w.applied) w.entries ≡ [] =
       rw (← here) unnamed in
       table_takes only [] shape here
@@ -108,7 +108,7 @@ module _ (v : View) (row : Row) (master : ℕ) (sound : SoundView v) (has : Cont
       ap (λ (members : List Member). rebuilder_post members master) shape ∙ first_post first last master here in
       let done : IsDone v.written range first =
       subst (FirstIsDone v.written range) (lineage_is ∙ shape)
-      (row_in v sound row has).done in
+      (row_in v sound row has).rest.done in
       table_takes first (last ∷ []) shape here
       (ap (λ (post : Post). has_all_items post old row.term) post ∙ lt-ltb old.term row.term below)
       (λ item at.
@@ -120,7 +120,7 @@ module _ (v : View) (row : Row) (master : ℕ) (sound : SoundView v) (has : Cont
   -- what it keeps is of the row's range
   own_range : is_member lineage master ≡ true → old.range ≡ range
   own_range member =
-      (row_in v sound row has).ranged master (inl lives) (ap (λ (members : List Member). is_member members master) lineage_is ∙ member)
+      (row_in v sound row has).roles.ranged master (inl lives) (ap (λ (members : List Member). is_member members master) lineage_is ∙ member)
 
   -- a master that waits has nothing
   waits_takes : (from place : ℕ) → is_member lineage master ≡ true → old.role ≡ roles.Wanting from → from ≡ place → IsTakenUp v row master place (v.records master)
@@ -144,7 +144,7 @@ module _ (v : View) (row : Row) (master : ℕ) (sound : SoundView v) (has : Cont
     target =
         rw (← here)
         (subst (λ (members : List Member). MembersFit row v.written v.handovers v.pullings v.records v.handed members) (lineage_is ∙ shape)
-        (row_in v sound row has).target
+        (row_in v sound row has).receives.target
         (ap (λ (n : ℕ). is_granted (v.handovers n row.tablet).role) here ∙ granted))
 
     -- what it copied
@@ -239,7 +239,7 @@ module _ (v : View) (row : Row) (master : ℕ) (sound : SoundView v) (has : Cont
         of_first : (item : Held) → Contains (named_items range last.from w) item → Contains (items_of (member_truth v.written range first)) item
         of_first item at =
             subst (NamedFit v.written range) (lineage_is ∙ shape)
-            (row_in v sound row has).named_items item
+            (row_in v sound row has).receives.named item
             (rw here at)
 
   last_takes : (first last : Member) → lineage ≡ first ∷ last ∷ [] → (first.master ≡ master → ⊥) → last.master ≡ master → IsTakenUp v row master last.from (v.records master)

@@ -26,14 +26,14 @@ second_fails false b first both = absurd (cc)
 module _ (v : View) (master number term : ℕ) (range : Range) (sound : SoundView v) (may : MayTakeOrder v master number term range) where
   -- what the master has fits each row
   pub fits : (x : Row) → Contains v.rows x → RoleFits x master (v.handovers master x.tablet) (v.written master).applied
-  fits x has = (row_in v sound x has).fitting master (inl may.lives)
+  fits x has = (row_in v sound x has).roles.fitting master (inl may.lives)
 
   pub kept : (x : Row) → Contains v.rows x → HandoverFits x x.tablet (v.handovers master x.tablet)
   kept x has = All-contains (λ (r : Row). HandoverFits r x.tablet (v.handovers master x.tablet)) v.rows x (sound.terms.kept master x.tablet) has
 
   -- a member of a row has its range
   pub member_range : (x : Row) → Contains v.rows x → is_member (lineage_of x.phase) master ≡ true → (v.handovers master x.tablet).range ≡ x.range
-  member_range x has member = (row_in v sound x has).ranged master (inl may.lives) member
+  member_range x has member = (row_in v sound x has).roles.ranged master (inl may.lives) member
 
   -- ---- another row whose range meets the order's
 

@@ -189,33 +189,33 @@ module _ (v : View) (a : Yielding v) where
         assumption (
           λ (q : ℕ).
               by_row v a (λ x q h. StillCounts (v.live q) h.term x.term → RoleFits x q h (v.written q).applied) x has q
-              (λ beside old counts. beside.fits) (was.fitting q),
+              (λ beside old counts. beside.fits) (was.roles.fitting q),
           λ (q : ℕ).
               by_row v a (λ x q h. StillCounts (v.live q) h.term x.term → is_member (lineage_of x.phase) q ≡ true → h.range ≡ x.range) x has q
-              (λ beside old counts. member_range v a x beside) (was.ranged q),
-          term_kept v a x has was.at_term,
+              (λ beside old counts. member_range v a x beside) (was.roles.ranged q),
+          term_kept v a x has was.roles.at_term,
           λ (q : ℕ).
               by_row v a
               (λ x q h. StillCounts (v.live q) h.term x.term → speaks (post_of x.phase q) h x.term ≡ true
               → ReachAll x.range v.journal (ends_of (v.completions q x.tablet)))
-              x has q (λ beside old counts says. absurd (silent v a x beside says)) (was.answering q),
-          for_grant_on v a AreHanded x has was.ends_granted,
-          λ (n : ℕ) (m : Message) (there : get v.wire n ≡ Some m). by_message_on v a AreHanded x has m.body (was.ends_sent n m there),
+              x has q (λ beside old counts says. absurd (silent v a x beside says)) (was.calls.answering q),
+          for_grant_on v a AreHanded x has was.calls.granted,
+          λ (n : ℕ) (m : Message) (there : get v.wire n ≡ Some m). by_message_on v a AreHanded x has m.body (was.calls.sent n m there),
           λ (q : ℕ).
               by_row v a
               (λ x q h. StillCounts (v.live q) h.term x.term → speaks (post_of x.phase q) h x.term ≡ true → IsNextOf v x h.counter) x has q
-              (λ beside old counts says. absurd (silent v a x beside says)) (was.counted q),
-          for_grant_on v a IsFloor x has was.floor_granted,
-          λ (n : ℕ) (m : Message) (there : get v.wire n ≡ Some m). by_message_on v a IsFloor x has m.body (was.floor_sent n m there),
+              (λ beside old counts says. absurd (silent v a x beside says)) (was.counters.counted q),
+          for_grant_on v a IsFloor x has was.counters.granted,
+          λ (n : ℕ) (m : Message) (there : get v.wire n ≡ Some m). by_message_on v a IsFloor x has m.body (was.counters.sent n m there),
           λ (q : ℕ).
               by_row v a (λ x q h. StillCounts (v.live q) h.term x.term → is_idle h.role ≡ true → IsSettledIn x.range (v.written q)) x has q
-              (λ beside old counts idles. settled v a x has beside idles) (was.idle q),
-          λ (q : ℕ) (lives : v.live q ≡ true). items_on x has q (was.items q lives),
-          members x has (lineage_of x.phase) refl was.target,
-          told x has (lineage_of x.phase) refl (formed_apart x.phase was.formed) was.handed_on,
-          row_rebuilt x has x.phase refl was.rebuilt,
-          λ (q : ℕ). marks_on x has q (was.marks q),
-          λ (n : ℕ) (m : Message) (there : get v.wire n ≡ Some m). says_on v a x has m.from m.to m.body (was.says n m there),
+              (λ beside old counts idles. settled v a x has beside idles) (was.rest.idle q),
+          λ (q : ℕ) (lives : v.live q ≡ true). items_on x has q (was.tables q lives),
+          members x has (lineage_of x.phase) refl was.receives.target,
+          told x has (lineage_of x.phase) refl (formed_apart x.phase was.rows.formed) was.receives.handed_on,
+          row_rebuilt x has x.phase refl was.rebuilds.rebuilt,
+          λ (q : ℕ). marks_on x has q (was.rebuilds.marks q),
+          λ (n : ℕ) (m : Message) (there : get v.wire n ≡ Some m). says_on v a x has m.from m.to m.body (was.messages n m there),
         )
 
   beside : SoundBeside now

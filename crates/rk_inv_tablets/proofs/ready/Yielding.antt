@@ -215,7 +215,7 @@ module _ (v : View) (a : Yielding v) where
 
   -- what the master had fitted the row
   pub fitted : (x : Row) → Contains v.rows x → RoleFits x a.master (old x) (v.written a.master).applied
-  fitted x has = (row_in v a.sound x has).fitting a.master (inl a.lives)
+  fitted x has = (row_in v a.sound x has).roles.fitting a.master (inl a.lives)
 
   -- so outside the lineage nothing was staged
   idled : (x : Row) → Contains v.rows x → IsBeside x → is_member (lineage_of x.phase) a.master ≡ false → is_idle (old x).role ≡ true

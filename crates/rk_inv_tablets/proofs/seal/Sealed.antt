@@ -80,10 +80,10 @@ module _ (v : View) (row : Row) (master : ℕ) (sound : SoundView v) (has_row : 
   second : IsSecond row.phase master row.term (v.handovers master row.tablet).term
   second =
       joining_second master row.term (v.handovers master row.tablet).term (v.written master).applied row.phase
-      (row_in v sound row has_row).formed
+      (row_in v sound row has_row).rows.formed
       (fits_joining (post_of row.phase master) row.term (v.handovers master row.tablet).term (v.written master).applied
       (subst (λ (role : Role). Holds (bond_of (post_of row.phase master) role) row.term (v.handovers master row.tablet).term (v.written master).applied) may.may.receiving
-      ((row_in v sound row has_row).fitting master (inl may.may.lives))))
+      ((row_in v sound row has_row).roles.fitting master (inl may.may.lives))))
 
   -- what it copied is the source's
   copied_in : (item : Held) → Contains (all_of pulling.sides) item → is_in row.range item ≡ true
@@ -92,7 +92,7 @@ module _ (v : View) (row : Row) (master : ℕ) (sound : SoundView v) (has_row : 
       let target : Member = second.target in
       let fit : MembersFit row v.written v.handovers v.pullings v.records v.handed (source ∷ target ∷ []) =
       subst (MembersFit row v.written v.handovers v.pullings v.records v.handed) second.lineage_is
-      (row_in v sound row has_row).target in
+      (row_in v sound row has_row).receives.target in
       let receiving : (v.handovers target.master row.tablet).role ≡ roles.Receiving =
       ap (λ (n : ℕ). (v.handovers n row.tablet).role) second.here ∙ may.may.receiving in
       let its = fit (ap is_granted receiving) in

@@ -193,7 +193,7 @@ module _ (v : View) (row : Row) (master : ℕ) (numbers : List ℕ) (sound : Sou
 
   marks : (q : ℕ) → All (λ mark. mark.tablet ≡ number → MarkFits row q (now.handovers q number) (v.live q) (v.written q) mark) (v.written q).marks
   marks q j m stands its =
-      let fit = was.marks q j m stands its in
+      let fit = was.rebuilds.marks q j m stands its in
       mark_same row q (v.handovers q number) (now.handovers q number) (v.live q) (v.written q) (v.written q) (slice_index_or (v.written q).marks j m)
       (alike q number).same_term (each q number).merged fit.behind fit
 
@@ -203,32 +203,32 @@ module _ (v : View) (row : Row) (master : ℕ) (numbers : List ℕ) (sound : Sou
         was,
         λ (q : ℕ) (counts : CountsFor now row q).
             role_looks row q (v.handovers q number) (now.handovers q number) (v.written q).applied (v.written q).applied (each q number).looks refl
-            (was.fitting q (counted q counts)),
+            (was.roles.fitting q (counted q counts)),
         λ (q : ℕ) (counts : CountsFor now row q) (member : is_member (lineage_of row.phase) q ≡ true).
-            (each q number).looks.range ∙ was.ranged q (counted q counts) member,
+            (each q number).looks.range ∙ was.roles.ranged q (counted q counts) member,
         terms_look row.phase (λ q. (v.handovers q number).term) (λ q. (now.handovers q number).term) row.term
-            (λ q. (alike q number).same_term) was.at_term,
-        λ (q : ℕ) (counts : CountsFor now row q) (says : SpeaksFor now row q). was.answering q (counted q counts) (spoke q says),
-        rw (← handed_for_grant_alike row v.handovers now.handovers v.handed alike) at was.ends_granted,
+            (λ q. (alike q number).same_term) was.roles.at_term,
+        λ (q : ℕ) (counts : CountsFor now row q) (says : SpeaksFor now row q). was.calls.answering q (counted q counts) (spoke q says),
+        rw (← handed_for_grant_alike row v.handovers now.handovers v.handed alike) at was.calls.granted,
         λ (n : ℕ) (m : Message) (there : get v.wire n ≡ Some m).
-            rw (← handed_by_alike row v.handovers now.handovers m.body alike) at (was.ends_sent n m there),
+            rw (← handed_by_alike row v.handovers now.handovers m.body alike) at (was.calls.sent n m there),
         λ (q : ℕ) (counts : CountsFor now row q) (says : SpeaksFor now row q).
-            rw (← counter_same q number) at (was.counted q (counted q counts) (spoke q says)),
-        rw (← handed_for_grant_alike row v.handovers now.handovers v.handed alike) at was.floor_granted,
+            rw (← counter_same q number) at (was.counters.counted q (counted q counts) (spoke q says)),
+        rw (← handed_for_grant_alike row v.handovers now.handovers v.handed alike) at was.counters.granted,
         λ (n : ℕ) (m : Message) (there : get v.wire n ≡ Some m).
-            rw (← handed_by_alike row v.handovers now.handovers m.body alike) at (was.floor_sent n m there),
+            rw (← handed_by_alike row v.handovers now.handovers m.body alike) at (was.counters.sent n m there),
         λ (q : ℕ) (counts : CountsFor now row q) (idles : is_idle (now.handovers q number).role ≡ true).
-            was.idle q (counted q counts) (sym (each q number).idle ∙ idles),
+            was.rest.idle q (counted q counts) (sym (each q number).idle ∙ idles),
         λ (q : ℕ) (alive : v.live q ≡ true) (has : has_all_items (post_of row.phase q) (now.handovers q number) row.term ≡ true).
-            was.items q alive
+            was.tables q alive
             (sym (all_items_same (post_of row.phase q) (now.handovers q number) (v.handovers q number) row.term (alike q number).same_term) ∙ has),
-        members_on (lineage_of row.phase) was.target,
-        told_on (lineage_of row.phase) was.handed_on,
-        rebuilt_on row.phase refl was.rebuilt,
+        members_on (lineage_of row.phase) was.receives.target,
+        told_on (lineage_of row.phase) was.receives.handed_on,
+        rebuilt_on row.phase refl was.rebuilds.rebuilt,
         marks,
         λ (n : ℕ) (m : Message) (there : get v.wire n ≡ Some m).
             says_of_looks v v.logs v.written now.handovers looks (λ q. refl) (λ x lineage q dead end needed. needed) row m.from m.to m.body
-            (was.says n m there),
+            (was.messages n m there),
       )
 
   -- the tablet is sound as that of a target that joins
@@ -240,10 +240,10 @@ module _ (v : View) (row : Row) (master : ℕ) (numbers : List ℕ) (sound : Sou
         its,
         all_in _ (λ x. HandoverFits x number joined.handover) v.rows
             (λ x has. handover_looks x number (v.handovers master number) joined.handover (joins_as (v.handovers master number) receiving).looks)
-            its.kept,
-        λ (absent : is_absent (roles.Joining None) ≡ false). its.begun there,
-        λ (other : ℕ) (apart : number ≢ other) (absent : is_absent (roles.Joining None) ≡ false). its.apart other apart there,
-        λ (alive : v.live master ≡ true) (absent : is_absent (roles.Joining None) ≡ false). its.has_row alive there,
+            its.terms.kept,
+        λ (absent : is_absent (roles.Joining None) ≡ false). its.terms.begun there,
+        λ (other : ℕ) (apart : number ≢ other) (absent : is_absent (roles.Joining None) ≡ false). its.terms.apart other apart there,
+        λ (alive : v.live master ≡ true) (absent : is_absent (roles.Joining None) ≡ false). its.roles alive there,
       )
 
   pub view_sides_joined : SoundView now
